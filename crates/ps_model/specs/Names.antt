@@ -1,0 +1,37 @@
+-- The grammar of resource names (Pub/Sub documentation, "Guidelines to name a topic or a subscription"; the project part is this project's own).
+use Rattle.std.specs.Prelude.{ℕ, List, [], ◌∷◌, length, Bool, false, ◌&&◌, ◌||◌, not, ◌==◌, nat_eq, nat_le, codes}
+use Rattle.std.specs.List.{list_all, starts_with, slice_split}
+use Rattle.std.specs.Char.{is_ascii_lowercase, is_ascii_alphabetic, is_ascii_alphanumeric, is_ascii_digit}
+use Rattle.std.specs.Str.{bytes_eq}
+
+-- lower-case letters, digits, `-`, `:` and `.`
+abbrev pub is_project_byte : ℕ → Bool
+is_project_byte b = is_ascii_lowercase b || is_ascii_digit b || b == 45 || b == 58 || b == 46
+
+-- letters, digits, `-`, `_`, `.`, `~`, `+` and `%`
+abbrev pub is_id_byte : ℕ → Bool
+is_id_byte b = is_ascii_alphanumeric b || b == 45 || b == 95 || b == 46 || b == 126 || b == 43 || b == 37
+
+abbrev pub starts_with_byte : (ℕ → Bool) → List ℕ → Bool
+starts_with_byte test [] = false
+starts_with_byte test (b ∷ bytes) = test b
+
+-- 1 to 63 bytes, the first a letter
+abbrev pub is_project : List ℕ → Bool
+is_project part = starts_with_byte is_ascii_lowercase part && nat_le (length part) 63 && list_all is_project_byte part
+
+-- 3 to 255 bytes, the first a letter, and not the reserved front `goog`
+abbrev pub is_id : List ℕ → Bool
+is_id part = starts_with_byte is_ascii_alphabetic part && nat_le 3 (length part) && nat_le (length part) 255 && list_all is_id_byte part && not (starts_with nat_eq part (codes "goog"))
+
+-- the parts of a text between its slashes
+abbrev pub parts_of : List ℕ → List (List ℕ)
+parts_of text = slice_split (λ b. b == 47) text
+
+abbrev pub is_topic_parts : List (List ℕ) → Bool
+is_topic_parts (projects ∷ project ∷ topics ∷ id ∷ []) = bytes_eq projects (codes "projects") && is_project project && bytes_eq topics (codes "topics") && is_id id
+is_topic_parts _ = false
+
+-- `projects/{project}/topics/{id}`
+abbrev pub is_topic_name : List ℕ → Bool
+is_topic_name text = is_topic_parts (parts_of text)
