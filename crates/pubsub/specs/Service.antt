@@ -1,0 +1,22 @@
+-- The service that `batch` runs: what a log means, what a line is told, and what state it leaves.
+use Rattle.std.specs.Prelude.{ℕ, List, Option}
+use Rattle.ps_keeper.specs.Log.{Log}
+use Rattle.ps_model.specs.declared.world.World.{World}
+use Rattle.ps_model.specs.Spelling.{spelled}
+use Rattle.ps_model.specs.Step.{empty_world, next, reply, entry_of}
+use Rattle.ps_book.specs.Meaning.{meaning}
+use Rattle.pubsub.specs.Fates.{Fate, line_told, line_state}
+use Rattle.pubsub.specs.Reading.{reading_of}
+use Rattle.pubsub.specs.Replies.{reply_text}
+
+-- the world after the entries that a log's rows spell, each accepted where it stands
+abbrev pub world_of : Log → Option World
+world_of log = meaning next spelled empty_world log
+
+-- what is printed for a line with this fate
+abbrev pub told : World × Option World → Fate → List ℕ → List ℕ
+told s fate line = line_told reply reading_of reply_text s fate line
+
+-- the world that the book holds after it, and maybe the one with an entry in doubt
+abbrev pub state : World × Option World → Fate → List ℕ → World × Option World
+state s fate line = line_state next entry_of reading_of s fate line

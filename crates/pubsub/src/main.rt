@@ -1,0 +1,61 @@
+//! A message server with the behaviour of Google Cloud Pub/Sub.
+#![tactic(auto)]
+
+mod batch;
+mod batch_line;
+mod body;
+mod cabinet;
+mod edge;
+mod fields;
+#[cfg(test)]
+mod front_tests;
+mod line;
+mod memory;
+mod memory_cabinet;
+mod offline;
+#[cfg(test)]
+mod offline_tests;
+mod pending;
+mod protocol;
+mod reply;
+mod route;
+mod rows;
+mod service;
+mod status;
+mod streams;
+mod topics;
+#[cfg(test)]
+mod topics_tests;
+
+use memory_cabinet::MemoryCabinet;
+use offline::run_offline;
+use std::process::ExitCode;
+use std::rt::Env;
+use std::{env, io};
+use streams::{StreamSink, StreamSource};
+
+/// The words after the program's name.
+fn words_of(rt: &(impl Env + AllocGlobal)) -> io::Result<Vec<String>> {
+    Ok(env::args(rt)?.skip(1).collect(rt.alloc())?)
+}
+
+fn main(rt: HostRuntime) -> ExitCode {
+    let alloc = rt.alloc();
+    let words = match words_of(&rt) {
+        Ok(words) => words,
+        Err(_) => Vec::new(alloc),
+    };
+    let mut input = StreamSource::new(rt.stdin());
+    let mut output = StreamSink::new(rt.stdout());
+    let mut faults = StreamSink::new(rt.stderr());
+    let mut cabinet = MemoryCabinet::new(alloc);
+    let code = run_offline(
+        alloc,
+        words.as_slice(),
+        &mut input,
+        &mut output,
+        &mut faults,
+        &mut cabinet,
+    );
+    ExitCode::from(code)
+}

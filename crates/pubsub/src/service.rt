@@ -1,0 +1,24 @@
+use crate::line::read_line;
+use crate::protocol::{Protocol, Reading};
+use crate::reply::print_reply;
+use crate::topics::Topics;
+use ps_base::{Octets, OutOfMemory};
+use ps_model::{Command, Reply};
+use std::alloc::Global;
+
+impl Protocol for Topics {
+    ghost use Rattle.pubsub.specs.Reading as spec;
+    ghost use Rattle.pubsub.specs.Replies.{reply_text};
+
+    ghost reading_of = { spec.reading_of };
+
+    ghost reply_text = { reply_text };
+
+    fn read_line(alloc: Global, line: &[u8]) -> Result<Reading<Command>, OutOfMemory> {
+        read_line(alloc, line)
+    }
+
+    fn print_reply(alloc: Global, reply: &Reply) -> Result<Octets, OutOfMemory> {
+        print_reply(alloc, reply)
+    }
+}
