@@ -1,2 +1,4 @@
 pub mod Moments
+pub mod Reasons
 pub mod Refusals
+pub mod Keys

@@ -1,15 +1,8 @@
 -- What is told of a refusal: its code and status (google.rpc.Code, and its mapping to HTTP), and its message.
-use Rattle.std.specs.Prelude.{ℕ, List, ◌++◌, codes}
-use Rattle.ps_base.specs.declared.refusal.Reason.{Reason}
-use Rattle.ps_base.specs.declared.refusal.Reason.TheVariants.{Body, Name, Shape}
+use Rattle.std.specs.Prelude.{ℕ, List, codes}
 use Rattle.ps_base.specs.declared.refusal.Refusal.{Refusal}
+use Rattle.ps_base.specs.Reasons.{reason_text}
 use Rattle.ps_base.specs.declared.refusal.Refusal.TheVariants.{InvalidArgument, NotFound, AlreadyExists, FailedPrecondition, Exhausted, Unimplemented}
-
--- a reason in words, with the path of the field where it has one
-abbrev pub reason_text : Reason → List ℕ
-reason_text Body = codes "body"
-reason_text Name = codes "name"
-reason_text (Shape path) = codes "shape: " ++ path
 
 -- the HTTP status code
 abbrev pub code_of : Refusal → ℕ

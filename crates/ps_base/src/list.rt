@@ -5,7 +5,7 @@ use std::alloc::Global;
 use std::marker::Model;
 
 /// A `Vec` that contracts see as the list of its items, first to last.
-#[derive(Debug, Drop)]
+#[derive(Clone, Debug, Drop)]
 pub struct List<T> {
     items: Vec<T>,
 }

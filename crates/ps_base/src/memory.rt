@@ -25,6 +25,12 @@ pub trait Duplicate: Sized + Drop {
         ensures { IfOk result (λ made. made ≡ self.now) };
 }
 
+impl Duplicate for u32 {
+    fn copy(&self, _alloc: Global) -> Result<u32, OutOfMemory> {
+        Ok(*self)
+    }
+}
+
 impl Duplicate for u64 {
     fn copy(&self, _alloc: Global) -> Result<u64, OutOfMemory> {
         Ok(*self)

@@ -1,23 +1,13 @@
 ghost use Rattle.std.specs.Prelude.{◌≡◌, IfOk};
-ghost use Rattle.ps_base.specs.Refusals.{reason_text, code_of, status_of, message_of};
+ghost use Rattle.ps_base.specs.Refusals.{code_of, status_of, message_of};
 
 use crate::memory::{Duplicate, OutOfMemory};
+use crate::reason::Reason;
 use crate::text::Text;
 use std::alloc::Global;
 
-/// A check of an argument that a call broke.
-#[derive(Debug, Drop)]
-pub enum Reason {
-    /// The body isn't a JSON object.
-    Body,
-    /// A name is outside the grammar, or isn't the one in the path.
-    Name,
-    /// The field at this path has another kind of value.
-    Shape(Text),
-}
-
 /// Why the service refused a command.
-#[derive(Debug, Drop)]
+#[derive(Clone, Debug, Drop)]
 pub enum Refusal {
     /// An argument breaks a check.
     InvalidArgument(Reason),
@@ -31,23 +21,6 @@ pub enum Refusal {
     Exhausted,
     /// The field at this path, or the call of this name, isn't built.
     Unimplemented(Text),
-}
-
-impl Reason {
-    /// The text that tells this reason: one word, or `shape: ` and a path. Only memory can be wanting.
-    pub fn text(&self, alloc: Global) -> Result<Text, OutOfMemory>
-        ensures { IfOk result (λ text. text ≡ reason_text self.now) }
-    {
-        match self {
-            Reason::Body => Text::from_str(alloc, "body"),
-            Reason::Name => Text::from_str(alloc, "name"),
-            Reason::Shape(path) => {
-                let mut text = String::from_str(alloc, "shape: ")?;
-                text.push_str(path.as_str())?;
-                Ok(Text::from_string(text))
-            }
-        }
-    }
 }
 
 impl Refusal {

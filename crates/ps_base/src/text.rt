@@ -1,12 +1,14 @@
 ghost use Rattle.std.specs.Prelude.{◌≡◌, length, IfOk, string_bytes};
 ghost use Rattle.std.specs.Str.{bytes_eq};
+ghost use Rattle.ps_base.specs.Keys.{is_below};
 
 use crate::memory::{Duplicate, OutOfMemory};
 use std::alloc::Global;
+use std::fmt;
 use std::marker::Model;
 
 /// A text in UTF-8 that contracts see as the list of its bytes.
-#[derive(Debug, Drop)]
+#[derive(Clone, Debug, Drop)]
 pub struct Text {
     text: String,
 }
@@ -56,10 +58,27 @@ impl Text {
     {
         self.text.as_str() == other.text.as_str()
     }
+
+    /// Whether this text comes before the other one in byte order.
+    pub fn is_below(&self, other: &Text) -> bool
+        ensures { result ≡ is_below self.now other.now }
+    {
+        self.text.as_str() < other.text.as_str()
+    }
 }
 
 impl Duplicate for Text {
     fn copy(&self, alloc: Global) -> Result<Text, OutOfMemory> {
         Text::from_str(alloc, self.text.as_str())
+    }
+}
+
+impl fmt::Display for Text {
+    ghost use Rattle.std.specs.Prelude.{Some};
+
+    ghost output = { λ text. Some text };
+
+    fn fmt<W: fmt::Write>(&self, f: &mut fmt::Formatter<W>) -> fmt::Result {
+        f.write_str(self.text.as_str())
     }
 }
