@@ -9,10 +9,10 @@ use Rattle.pubsub.specs.declared.batch.End.{End}
 use Rattle.pubsub.specs.declared.batch.End.TheVariants as end
 use Rattle.pubsub.specs.declared.status.Status.{Status}
 use Rattle.pubsub.specs.declared.status.Status.TheVariants.{Done, Usage, ReadFault, WriteFault, StoreFault, BadRow, OutOfMemory, TooLong}
-use Rattle.ps_model.specs.Spelling.{spelled}
-use Rattle.ps_model.specs.Step.{empty_world, next}
-use Rattle.ps_model.specs.declared.world.World.{World}
-use Rattle.ps_model.proofs.Accepting.{counts_entries}
+use Rattle.ps_core.specs.Spelling.{spelled}
+use Rattle.ps_core.specs.Step.{empty_world, next}
+use Rattle.ps_core.specs.declared.world.World.{World}
+use Rattle.ps_core.specs.Laws.{counts_entries}
 use Rattle.ps_book.specs.Read.{HasBadRow}
 use Rattle.ps_book.proofs.Damage.{damaged}
 use Rattle.pubsub.specs.Ending.{HoldsAt, HasMeaning}
@@ -101,76 +101,6 @@ module _ {M K W : Type 0} (world : M → W) (mean : Log → Option W) (number : 
 
   pub closed-count : (before : ℕ) (book end : Book M K) (k : K) → k ≡ end.keeper → before ≤ faults book.keeper → (n : ℕ) → min (faults book.keeper + n) (2 ^ 64 - 1) ≤ faults end.keeper → min (before + n) (2 ^ 64 - 1) ≤ faults k
   closed-count before book end k given later n le = let same = ap faults given in omega (arith, same, later, le)
-
-pub code-Done : (s : Status) → code_of s ≡ 0 → s ≡ Done
-code-Done Done e = refl
-code-Done Usage e = absurd (omega arith)
-code-Done ReadFault e = absurd (omega arith)
-code-Done WriteFault e = absurd (omega arith)
-code-Done StoreFault e = absurd (omega arith)
-code-Done (BadRow seq) e = absurd (omega arith)
-code-Done OutOfMemory e = absurd (omega arith)
-code-Done TooLong e = absurd (omega arith)
-
-pub code-Usage : (s : Status) → code_of s ≡ 2 → s ≡ Usage
-code-Usage Done e = absurd (omega arith)
-code-Usage Usage e = refl
-code-Usage ReadFault e = absurd (omega arith)
-code-Usage WriteFault e = absurd (omega arith)
-code-Usage StoreFault e = absurd (omega arith)
-code-Usage (BadRow seq) e = absurd (omega arith)
-code-Usage OutOfMemory e = absurd (omega arith)
-code-Usage TooLong e = absurd (omega arith)
-
-pub code-ReadFault : (s : Status) → code_of s ≡ 3 → s ≡ ReadFault
-code-ReadFault Done e = absurd (omega arith)
-code-ReadFault Usage e = absurd (omega arith)
-code-ReadFault ReadFault e = refl
-code-ReadFault WriteFault e = absurd (omega arith)
-code-ReadFault StoreFault e = absurd (omega arith)
-code-ReadFault (BadRow seq) e = absurd (omega arith)
-code-ReadFault OutOfMemory e = absurd (omega arith)
-code-ReadFault TooLong e = absurd (omega arith)
-
-pub code-WriteFault : (s : Status) → code_of s ≡ 4 → s ≡ WriteFault
-code-WriteFault Done e = absurd (omega arith)
-code-WriteFault Usage e = absurd (omega arith)
-code-WriteFault ReadFault e = absurd (omega arith)
-code-WriteFault WriteFault e = refl
-code-WriteFault StoreFault e = absurd (omega arith)
-code-WriteFault (BadRow seq) e = absurd (omega arith)
-code-WriteFault OutOfMemory e = absurd (omega arith)
-code-WriteFault TooLong e = absurd (omega arith)
-
-pub code-StoreFault : (s : Status) → code_of s ≡ 5 → s ≡ StoreFault
-code-StoreFault Done e = absurd (omega arith)
-code-StoreFault Usage e = absurd (omega arith)
-code-StoreFault ReadFault e = absurd (omega arith)
-code-StoreFault WriteFault e = absurd (omega arith)
-code-StoreFault StoreFault e = refl
-code-StoreFault (BadRow seq) e = absurd (omega arith)
-code-StoreFault OutOfMemory e = absurd (omega arith)
-code-StoreFault TooLong e = absurd (omega arith)
-
-pub code-OutOfMemory : (s : Status) → code_of s ≡ 7 → s ≡ OutOfMemory
-code-OutOfMemory Done e = absurd (omega arith)
-code-OutOfMemory Usage e = absurd (omega arith)
-code-OutOfMemory ReadFault e = absurd (omega arith)
-code-OutOfMemory WriteFault e = absurd (omega arith)
-code-OutOfMemory StoreFault e = absurd (omega arith)
-code-OutOfMemory (BadRow seq) e = absurd (omega arith)
-code-OutOfMemory OutOfMemory e = refl
-code-OutOfMemory TooLong e = absurd (omega arith)
-
-pub code-TooLong : (s : Status) → code_of s ≡ 8 → s ≡ TooLong
-code-TooLong Done e = absurd (omega arith)
-code-TooLong Usage e = absurd (omega arith)
-code-TooLong ReadFault e = absurd (omega arith)
-code-TooLong WriteFault e = absurd (omega arith)
-code-TooLong StoreFault e = absurd (omega arith)
-code-TooLong (BadRow seq) e = absurd (omega arith)
-code-TooLong OutOfMemory e = absurd (omega arith)
-code-TooLong TooLong e = refl
 
 pub code-row : (s : Status) → code_of s ≡ 6 → (seq : ℕ) × (s ≡ BadRow seq)
 code-row Done e = absurd (omega arith)

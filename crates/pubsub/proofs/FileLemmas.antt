@@ -2,12 +2,11 @@
 use Rattle.std.proofs.Common.{◌≡◌, ℕ, ◌+◌, ◌-◌, ◌^◌, ◌≤◌, min, List, [], Option, Some, None, Bool, true, false, if◌then◌else◌, refl, sym, ap, ◌∙◌, subst, arith}
 use Rattle.std.specs.Prelude.{IfSome, IsTrue, MatchBool}
 use Rattle.std.specs.Str.{bytes_eq}
-use Rattle.ps_keeper.specs.Cause.{Rose}
 use Rattle.ps_keeper.specs.Log.{Log}
 use Rattle.ps_book.specs.Holding.{IsAt}
 use Rattle.ps_book.specs.Read.{IsOnlyRead, HasBadRow}
 use Rattle.pubsub.specs.Ending.{opened, WasRead, Meant, HoldsAt, IsLeftAlone}
-use Rattle.pubsub.specs.Files.{dash, BeginsWith, TellsTheSame, HandsOut, IsKeptAs, SameFile}
+use Rattle.ps_edge.specs.Files.{dash, BeginsWith, TellsTheSame, HandsOut, IsKeptAs, SameFile}
 
 module _ (tells0 : Bool) (log0 : Option Log) (leaves0 : Log → Type 0) (tells : Bool) (log : Option Log) (leaves : Log → Type 0) where
   abbrev Hands : Bool → Type 0
@@ -67,9 +66,6 @@ cabinet-holds mean tells log told leaves may_leave kept w more holds = record {
 
 pub cabinet-count : (before mid now k0 k1 : ℕ) → k0 ≡ 0 → before ≤ mid → now ≡ min (mid + k1) (2 ^ 64 - 1) → (n : ℕ) → min (k0 + n) (2 ^ 64 - 1) ≤ k1 → min (before + n) (2 ^ 64 - 1) ≤ now
 cabinet-count before mid now k0 k1 zero later sum n le = omega (arith, zero, later, sum, le)
-
-pub cabinet-rose : (before mid now k0 k1 : ℕ) → k0 ≡ 0 → before ≤ mid → now ≡ min (mid + k1) (2 ^ 64 - 1) → Rose k0 k1 → Rose before now
-cabinet-rose before mid now k0 k1 zero later sum rose = omega (arith, zero, later, sum, rose)
 
 -- a cabinet that refused a keeper
 pub refused-alone : (path : List ℕ) (tells : Bool) (log : Option Log) (leaves : Log → Type 0) (tells_now : Bool) (log_now : Option Log) (leaves_now : Log → Type 0) → SameFile tells log leaves tells_now log_now leaves_now → IsTrue tells_now → IsLeftAlone path tells log leaves log_now leaves_now

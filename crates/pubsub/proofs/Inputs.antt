@@ -3,9 +3,9 @@ use Rattle.std.proofs.Common.{◌≡◌, ◌≤◌, ℕ, ◌+◌, ◌-◌, lengt
 use Rattle.std.proofs.lemmas.List.{append-nil, drop-drop, take-append-drop}
 use Rattle.std.proofs.Math.Seq.{take-add}
 use Rattle.std.specs.Prelude.{IfSome}
-use Rattle.pubsub.specs.declared.edge.Got.TheVariants.{Bytes, End}
+use Rattle.ps_edge.specs.declared.edge.Got.TheVariants.{Bytes, End}
 use Rattle.pubsub.specs.declared.pending.Pending.{Pending}
-use Rattle.pubsub.specs.Edge.{Takes}
+use Rattle.ps_edge.specs.Edge.{Takes}
 use Rattle.pubsub.specs.Fates.{Fate}
 use Rattle.pubsub.specs.Lines.{lines_of, feeds}
 use Rattle.pubsub.specs.Pending.{IsPending}
@@ -37,10 +37,6 @@ moved_on (Some bytes) mid now room k n moved takes =
 -- the piece of one read is the next part of the input
 piece_is : (bytes room : List ℕ) (k n : ℕ) → take n room ≡ take n (drop k bytes) → take k bytes ++ take n room ≡ take (k + n) bytes
 piece_is bytes room k n same = ap (λ (l : List ℕ). take k bytes ++ l) same ∙ sym (take-add k n bytes)
-
-pub long_enough : (left now : Option (List ℕ)) (k most : ℕ) → k ≡ most → Moved left now k → IfSome left (λ bytes. most ≤ length bytes)
-long_enough None now k most full moved = tt
-long_enough (Some bytes) now k most full moved = subst (λ (n : ℕ). n ≤ length bytes) full moved.0
 
 module _ {W : Type 0} (text : W × Option W → Fate → List ℕ → List ℕ) (step : W × Option W → Fate → List ℕ → W × Option W) (stands : W → Option W → Type 0) where
   pub goes_none : (s : W × Option W) (left : Option (List ℕ)) (pending : Pending) (held : Option (List ℕ)) (before now : ℕ) → IsPending [] pending → before ≤ now → stands s.0 s.1 → IfSome left (λ bytes. Reaches text step stands s (take 0 bytes) pending held held before now)

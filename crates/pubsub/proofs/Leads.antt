@@ -5,7 +5,7 @@ use Rattle.pubsub.specs.Lines.{lines_of, HasNoFeed}
 use Rattle.pubsub.specs.Fates.{Fate, told_texts, state_after, store_faults, bad_rows, HasFateCauses}
 use Rattle.pubsub.specs.Leading.{Led}
 use Rattle.pubsub.proofs.FeedLemmas.{lines-feed, feeds-append, feeds-line}
-use Rattle.pubsub.proofs.Texts.{joined, unwritten}
+use Rattle.ps_edge.proofs.Texts.{joined, unwritten}
 
 store_faults-append : (one two : List Fate) → store_faults (one ++ two) ≡ store_faults one + store_faults two
 store_faults-append [] two = omega arith

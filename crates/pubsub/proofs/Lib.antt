@@ -1,14 +1,8 @@
-pub mod BodyLemmas
 pub mod Calls
 pub mod EndLemmas
 pub mod FeedLemmas
-pub mod FieldLemmas
 pub mod FileLemmas
 pub mod Inputs
 pub mod Leads
-pub mod LineLemmas
-pub mod ReplyLemmas
 pub mod Runs
-pub mod SlotLemmas
 pub mod StatusLemmas
-pub mod Texts

@@ -10,7 +10,7 @@ use Rattle.pubsub.specs.Leading.{Led, Reaches, HasServed, IsUnended}
 use Rattle.pubsub.specs.Serving.{Serves, ServesWhole}
 use Rattle.pubsub.proofs.FeedLemmas.{lines-feed, lines-last, feeds-none, no_feed_push}
 use Rattle.pubsub.proofs.Leads.{causes_none, causes_on, texts_none, state_none, led_none, led_line, led_on}
-use Rattle.pubsub.proofs.Texts.{joined, unwritten}
+use Rattle.ps_edge.proofs.Texts.{joined, unwritten}
 
 -- a front of a text after a whole text
 front_after : (one two : List ℕ) (cut : ℕ) → take (length one + cut) (one ++ two) ≡ one ++ take cut two

@@ -3,12 +3,12 @@ use Rattle.std.specs.Prelude.{ℕ, List, Option, Some, None, Result, Ok, Err, co
 use Rattle.serde_json.specs.Data.{Data}
 use Rattle.ps_base.specs.declared.refusal.Refusal.{Refusal}
 use Rattle.ps_base.specs.declared.refusal.Refusal.TheVariants.{Unimplemented}
-use Rattle.ps_model.specs.declared.command.Command.{Command}
+use Rattle.ps_core.specs.declared.command.Command.{Command}
 use Rattle.pubsub.specs.declared.protocol.Reading.{Reading}
 use Rattle.pubsub.specs.declared.protocol.Reading.TheVariants.{Call, Refused}
-use Rattle.pubsub.specs.Body.{create_topic}
-use Rattle.pubsub.specs.Line.{Line, line_of}
-use Rattle.pubsub.specs.Replies.{no_line_text, refusal_text}
+use Rattle.ps_json.specs.Body.{create_topic}
+use Rattle.ps_json.specs.Line.{Line, line_of}
+use Rattle.ps_json.specs.Replies.{no_line_text, refusal_text}
 use Rattle.pubsub.specs.Route.{topic_of}
 
 -- the one route creates the topic that its path names

@@ -2,7 +2,7 @@ ghost use Rattle.std.specs.Prelude.{◌≡◌, ◌≤◌, ◌<◌, ◌⊎◌, �
 ghost use Rattle.ps_keeper.specs.Cause.{Rose};
 ghost use Rattle.ps_book.specs.Meaning.{meaning};
 ghost use Rattle.ps_book.specs.Holding.{Stands, HoldsSome};
-ghost use Rattle.pubsub.specs.Edge.{HasWriteCause};
+ghost use Rattle.ps_edge.specs.Edge.{HasWriteCause};
 ghost use Rattle.pubsub.specs.FaultTexts.{fault_text};
 ghost use Rattle.pubsub.specs.Fates.{line_reading, line_told, line_state};
 ghost use Rattle.pubsub.specs.Leading.{printed_bytes, HasReadingFate, HasServed, IsUnended, Reaches};
@@ -10,11 +10,11 @@ ghost use Rattle.pubsub.specs.Lines.{lines_of, feeds};
 ghost use Rattle.pubsub.specs.Pending.{IsPending};
 ghost use Rattle.pubsub.specs.Serving.{FromEach, Serves, ServesWhole, HasTaken, Took};
 
-use crate::edge::{Failed, Got, Sink, Source, write_all};
 use crate::pending::Pending;
 use crate::protocol::{Protocol, Reading};
 use ps_base as base;
 use ps_book::{Book, CallError};
+use ps_edge::{Failed, Got, Sink, Source, write_all};
 use ps_keeper::Keeper;
 use std::alloc::Global;
 

@@ -1,15 +1,13 @@
 // A line of a batch: the call that it asks, or the line that refuses it.
 ghost use Rattle.std.specs.Prelude.{◌≡◌, IfOk};
 ghost use Rattle.pubsub.specs.Reading.{asked_by, reading_of, reading_at};
-ghost use Rattle.pubsub.specs.Shown.{shown};
+ghost use Rattle.ps_json.specs.Shown.{shown};
 
-use crate::batch_line::{BatchLine, read_batch_line};
-use crate::body::create_topic;
 use crate::protocol::Reading;
-use crate::reply::{no_line, refusal_line};
 use crate::route::topic_of;
 use ps_base::{OutOfMemory, Refusal, Text};
-use ps_model::Command;
+use ps_core::Command;
+use ps_json::{BatchLine, create_topic, no_line, read_batch_line, refusal_line};
 use std::alloc::Global;
 
 /// What these bytes, a line without its line feed, ask.

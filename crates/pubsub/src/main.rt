@@ -2,33 +2,23 @@
 #![tactic(auto)]
 
 mod batch;
-mod batch_line;
-mod body;
-mod cabinet;
-mod edge;
-mod fields;
 #[cfg(test)]
 mod front_tests;
 mod line;
-mod memory;
-mod memory_cabinet;
 mod offline;
 #[cfg(test)]
 mod offline_tests;
 mod pending;
 mod protocol;
-mod reply;
 mod route;
-mod rows;
 mod service;
 mod status;
 mod streams;
-mod topics;
-#[cfg(test)]
-mod topics_tests;
 
-use memory_cabinet::MemoryCabinet;
 use offline::run_offline;
+use ps_edge::MemoryCabinet;
+use status::{Status, tell};
+use std::io::ErrorKind;
 use std::process::ExitCode;
 use std::rt::Env;
 use std::{env, io};
@@ -41,13 +31,19 @@ fn words_of(rt: &(impl Env + AllocGlobal)) -> io::Result<Vec<String>> {
 
 fn main(rt: HostRuntime) -> ExitCode {
     let alloc = rt.alloc();
+    let mut faults = StreamSink::new(rt.stderr());
     let words = match words_of(&rt) {
         Ok(words) => words,
-        Err(_) => Vec::new(alloc),
+        Err(error) => {
+            if error.kind() == ErrorKind::OutOfMemory {
+                tell(&mut faults, Status::OutOfMemory);
+                return ExitCode::from(Status::OutOfMemory.code());
+            }
+            Vec::new(alloc)
+        }
     };
     let mut input = StreamSource::new(rt.stdin());
     let mut output = StreamSink::new(rt.stdout());
-    let mut faults = StreamSink::new(rt.stderr());
     let mut cabinet = MemoryCabinet::new(alloc);
     let code = run_offline(
         alloc,

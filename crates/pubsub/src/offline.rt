@@ -4,20 +4,19 @@ ghost use Rattle.ps_keeper.specs.Cause.{Rose};
 ghost use Rattle.ps_book.specs.Meaning.{meaning};
 ghost use Rattle.ps_book.specs.Read.{IsOnlyRead, HasBadRow};
 ghost use Rattle.pubsub.specs.Fates.{line_told, line_state};
-ghost use Rattle.pubsub.specs.Ending.{WasRead, Meant, HoldsAt, AnswersAll, AnswersEnded, AnswersLong, AnswersFirst, IsLeftAlone, HasMeaning, opened};
-ghost use Rattle.pubsub.specs.Files.{HasAsked, SameFile};
+ghost use Rattle.pubsub.specs.Ending.{OverKeeper, OverFile, AnswersAll, AnswersEnded, AnswersLong, AnswersFirst, LeavesAlone, HasMeaning, opened};
+ghost use Rattle.ps_edge.specs.Files.{HasAsked, SameFile};
 ghost use Rattle.pubsub.specs.Service.{world_of, told, state};
 ghost use Rattle.pubsub.specs.Statuses.{file_named, code_of, status_text, IsTold};
-ghost use Rattle.ps_model.specs.Spelling.{spelled};
-ghost use Rattle.ps_model.specs.Step.{empty_world, next};
+ghost use Rattle.ps_core.specs.Spelling.{spelled};
+ghost use Rattle.ps_core.specs.Step.{empty_world, next};
 
 use crate::batch::run_lines;
-use crate::cabinet::Cabinet;
-use crate::edge::{Sink, Source};
 use crate::protocol::Protocol;
 use crate::status::{Status, status_of_begin, status_of_run, tell};
-use crate::topics::Topics;
 use ps_book::{Book, Unbegun};
+use ps_core::Topics;
+use ps_edge::{Cabinet, Sink, Source};
 use ps_keeper::{Keeper, KeeperError};
 use std::alloc::Global;
 
@@ -44,19 +43,19 @@ pub fn answer_all<M: Protocol, K: Keeper, I: Source, O: Sink>(
     ensures bad_row { (seq : ℕ) → result.status ≡ Status.BadRow seq → IsTrue (K.tells result.keeper) → HasBadRow M.next M.spelled M.first (K.log keeper) seq }
     ensures unopened_store { result.status ≡ Status.StoreFault → (input.new ≡ input.old) × (output.new ≡ output.old) × (IsTrue (K.tells result.keeper) → IsOnlyRead (K.log keeper) (K.log result.keeper) (K.may_leave keeper) (K.may_leave result.keeper)) }
     ensures unopened_row { (seq : ℕ) → result.status ≡ Status.BadRow seq → (input.new ≡ input.old) × (output.new ≡ output.old) × (IsTrue (K.tells result.keeper) → IsOnlyRead (K.log keeper) (K.log result.keeper) (K.may_leave keeper) (K.may_leave result.keeper)) }
-    ensures all { result.status ≡ Status.Done → IsTrue (K.tells result.keeper) → AnswersAll (WasRead (meaning M.next M.spelled M.first) (K.log keeper)) (line_told M.reply M.reading_of M.reply_text) (line_state M.next M.entry_of M.reading_of)
-        (HoldsAt (meaning M.next M.spelled M.first) (K.log result.keeper) (K.may_leave result.keeper)) (I.left input.old) (I.left input.new) (O.holds output.old) (O.holds output.new) (K.faults keeper) (K.faults result.keeper) }
-    ensures at_read_fault { result.status ≡ Status.ReadFault → IsTrue (K.tells result.keeper) → AnswersEnded (WasRead (meaning M.next M.spelled M.first) (K.log keeper)) (line_told M.reply M.reading_of M.reply_text) (line_state M.next M.entry_of M.reading_of)
-        (HoldsAt (meaning M.next M.spelled M.first) (K.log result.keeper) (K.may_leave result.keeper)) (I.left input.old) (I.left input.new) (O.holds output.old) (O.holds output.new) (K.faults keeper) (K.faults result.keeper) }
-    ensures at_write_fault { result.status ≡ Status.WriteFault → IsTrue (K.tells result.keeper) → AnswersFirst (WasRead (meaning M.next M.spelled M.first) (K.log keeper)) (line_told M.reply M.reading_of M.reply_text) (line_state M.next M.entry_of M.reading_of)
-        (HoldsAt (meaning M.next M.spelled M.first) (K.log result.keeper) (K.may_leave result.keeper)) (I.left input.old) (I.left input.new) (O.holds output.old) (O.holds output.new) (K.faults keeper) (K.faults result.keeper) }
-    ensures at_too_long { result.status ≡ Status.TooLong → IsTrue (K.tells result.keeper) → AnswersLong (WasRead (meaning M.next M.spelled M.first) (K.log keeper)) (line_told M.reply M.reading_of M.reply_text) (line_state M.next M.entry_of M.reading_of)
-        (HoldsAt (meaning M.next M.spelled M.first) (K.log result.keeper) (K.may_leave result.keeper)) (I.left input.old) (I.left input.new) (O.holds output.old) (O.holds output.new) (K.faults keeper) (K.faults result.keeper) }
+    ensures all { result.status ≡ Status.Done → IsTrue (K.tells result.keeper) → OverKeeper AnswersAll (meaning M.next M.spelled M.first) (line_told M.reply M.reading_of M.reply_text) (line_state M.next M.entry_of M.reading_of)
+        K.log K.may_leave K.faults keeper result.keeper I.left input.old input.new O.holds output.old output.new }
+    ensures at_read_fault { result.status ≡ Status.ReadFault → IsTrue (K.tells result.keeper) → OverKeeper AnswersEnded (meaning M.next M.spelled M.first) (line_told M.reply M.reading_of M.reply_text) (line_state M.next M.entry_of M.reading_of)
+        K.log K.may_leave K.faults keeper result.keeper I.left input.old input.new O.holds output.old output.new }
+    ensures at_write_fault { result.status ≡ Status.WriteFault → IsTrue (K.tells result.keeper) → OverKeeper AnswersFirst (meaning M.next M.spelled M.first) (line_told M.reply M.reading_of M.reply_text) (line_state M.next M.entry_of M.reading_of)
+        K.log K.may_leave K.faults keeper result.keeper I.left input.old input.new O.holds output.old output.new }
+    ensures at_too_long { result.status ≡ Status.TooLong → IsTrue (K.tells result.keeper) → OverKeeper AnswersLong (meaning M.next M.spelled M.first) (line_told M.reply M.reading_of M.reply_text) (line_state M.next M.entry_of M.reading_of)
+        K.log K.may_leave K.faults keeper result.keeper I.left input.old input.new O.holds output.old output.new }
     ensures too_long { result.status ≡ Status.TooLong → IfSome (I.left input.old) (λ bytes. 2 ^ 60 ≤ length bytes) }
     ensures at_memory { result.status ≡ Status.OutOfMemory → IsTrue (K.tells result.keeper)
         → ((input.new ≡ input.old) × (output.new ≡ output.old) × IsOnlyRead (K.log keeper) (K.log result.keeper) (K.may_leave keeper) (K.may_leave result.keeper))
-        ⊎ AnswersFirst (WasRead (meaning M.next M.spelled M.first) (K.log keeper)) (line_told M.reply M.reading_of M.reply_text) (line_state M.next M.entry_of M.reading_of)
-        (HoldsAt (meaning M.next M.spelled M.first) (K.log result.keeper) (K.may_leave result.keeper)) (I.left input.old) (I.left input.new) (O.holds output.old) (O.holds output.new) (K.faults keeper) (K.faults result.keeper) }
+        ⊎ OverKeeper AnswersFirst (meaning M.next M.spelled M.first) (line_told M.reply M.reading_of M.reply_text) (line_state M.next M.entry_of M.reading_of)
+        K.log K.may_leave K.faults keeper result.keeper I.left input.old input.new O.holds output.old output.new }
 {
     let Ok(machine) = M::fresh(alloc) else {
         return Ended {
@@ -97,20 +96,20 @@ pub fn answer_file<M: Protocol, I: Source, O: Sink, S: Cabinet>(
     ensures bad_row { (seq : ℕ) → result ≡ Status.BadRow seq → IsTrue (S.tells cabinet.new file.now) → IfSome (opened file.now (S.tells cabinet.old file.now) (S.log cabinet.old file.now)) (λ rows. HasBadRow M.next M.spelled M.first (Some rows) seq) }
     ensures unopened_store { result ≡ Status.StoreFault → (input.new ≡ input.old) × (output.new ≡ output.old) }
     ensures unopened_row { (seq : ℕ) → result ≡ Status.BadRow seq → (input.new ≡ input.old) × (output.new ≡ output.old) }
-    ensures alone_store { result ≡ Status.StoreFault → IsTrue (S.tells cabinet.new file.now) → IsLeftAlone file.now (S.tells cabinet.old file.now) (S.log cabinet.old file.now) (S.may_leave cabinet.old file.now) (S.log cabinet.new file.now) (S.may_leave cabinet.new file.now) }
-    ensures alone_row { (seq : ℕ) → result ≡ Status.BadRow seq → IsTrue (S.tells cabinet.new file.now) → IsLeftAlone file.now (S.tells cabinet.old file.now) (S.log cabinet.old file.now) (S.may_leave cabinet.old file.now) (S.log cabinet.new file.now) (S.may_leave cabinet.new file.now) }
-    ensures all { result ≡ Status.Done → IsTrue (S.tells cabinet.new file.now) → AnswersAll (Meant (meaning M.next M.spelled M.first) (opened file.now (S.tells cabinet.old file.now) (S.log cabinet.old file.now))) (line_told M.reply M.reading_of M.reply_text) (line_state M.next M.entry_of M.reading_of)
-        (HoldsAt (meaning M.next M.spelled M.first) (S.log cabinet.new file.now) (S.may_leave cabinet.new file.now)) (I.left input.old) (I.left input.new) (O.holds output.old) (O.holds output.new) (S.faults cabinet.old) (S.faults cabinet.new) }
-    ensures at_read_fault { result ≡ Status.ReadFault → IsTrue (S.tells cabinet.new file.now) → AnswersEnded (Meant (meaning M.next M.spelled M.first) (opened file.now (S.tells cabinet.old file.now) (S.log cabinet.old file.now))) (line_told M.reply M.reading_of M.reply_text) (line_state M.next M.entry_of M.reading_of)
-        (HoldsAt (meaning M.next M.spelled M.first) (S.log cabinet.new file.now) (S.may_leave cabinet.new file.now)) (I.left input.old) (I.left input.new) (O.holds output.old) (O.holds output.new) (S.faults cabinet.old) (S.faults cabinet.new) }
-    ensures at_write_fault { result ≡ Status.WriteFault → IsTrue (S.tells cabinet.new file.now) → AnswersFirst (Meant (meaning M.next M.spelled M.first) (opened file.now (S.tells cabinet.old file.now) (S.log cabinet.old file.now))) (line_told M.reply M.reading_of M.reply_text) (line_state M.next M.entry_of M.reading_of)
-        (HoldsAt (meaning M.next M.spelled M.first) (S.log cabinet.new file.now) (S.may_leave cabinet.new file.now)) (I.left input.old) (I.left input.new) (O.holds output.old) (O.holds output.new) (S.faults cabinet.old) (S.faults cabinet.new) }
-    ensures at_too_long { result ≡ Status.TooLong → IsTrue (S.tells cabinet.new file.now) → AnswersLong (Meant (meaning M.next M.spelled M.first) (opened file.now (S.tells cabinet.old file.now) (S.log cabinet.old file.now))) (line_told M.reply M.reading_of M.reply_text) (line_state M.next M.entry_of M.reading_of)
-        (HoldsAt (meaning M.next M.spelled M.first) (S.log cabinet.new file.now) (S.may_leave cabinet.new file.now)) (I.left input.old) (I.left input.new) (O.holds output.old) (O.holds output.new) (S.faults cabinet.old) (S.faults cabinet.new) }
+    ensures alone_store { result ≡ Status.StoreFault → IsTrue (S.tells cabinet.new file.now) → LeavesAlone S.tells S.log S.may_leave cabinet.old cabinet.new file.now }
+    ensures alone_row { (seq : ℕ) → result ≡ Status.BadRow seq → IsTrue (S.tells cabinet.new file.now) → LeavesAlone S.tells S.log S.may_leave cabinet.old cabinet.new file.now }
+    ensures all { result ≡ Status.Done → IsTrue (S.tells cabinet.new file.now) → OverFile AnswersAll (meaning M.next M.spelled M.first) (line_told M.reply M.reading_of M.reply_text) (line_state M.next M.entry_of M.reading_of)
+        S.tells S.log S.may_leave S.faults cabinet.old cabinet.new I.left input.old input.new O.holds output.old output.new file.now }
+    ensures at_read_fault { result ≡ Status.ReadFault → IsTrue (S.tells cabinet.new file.now) → OverFile AnswersEnded (meaning M.next M.spelled M.first) (line_told M.reply M.reading_of M.reply_text) (line_state M.next M.entry_of M.reading_of)
+        S.tells S.log S.may_leave S.faults cabinet.old cabinet.new I.left input.old input.new O.holds output.old output.new file.now }
+    ensures at_write_fault { result ≡ Status.WriteFault → IsTrue (S.tells cabinet.new file.now) → OverFile AnswersFirst (meaning M.next M.spelled M.first) (line_told M.reply M.reading_of M.reply_text) (line_state M.next M.entry_of M.reading_of)
+        S.tells S.log S.may_leave S.faults cabinet.old cabinet.new I.left input.old input.new O.holds output.old output.new file.now }
+    ensures at_too_long { result ≡ Status.TooLong → IsTrue (S.tells cabinet.new file.now) → OverFile AnswersLong (meaning M.next M.spelled M.first) (line_told M.reply M.reading_of M.reply_text) (line_state M.next M.entry_of M.reading_of)
+        S.tells S.log S.may_leave S.faults cabinet.old cabinet.new I.left input.old input.new O.holds output.old output.new file.now }
     ensures too_long { result ≡ Status.TooLong → IfSome (I.left input.old) (λ bytes. 2 ^ 60 ≤ length bytes) }
     ensures at_memory { result ≡ Status.OutOfMemory → IsTrue (S.tells cabinet.new file.now)
-        → ((input.new ≡ input.old) × (output.new ≡ output.old) × IsLeftAlone file.now (S.tells cabinet.old file.now) (S.log cabinet.old file.now) (S.may_leave cabinet.old file.now) (S.log cabinet.new file.now) (S.may_leave cabinet.new file.now)) ⊎ AnswersFirst (Meant (meaning M.next M.spelled M.first) (opened file.now (S.tells cabinet.old file.now) (S.log cabinet.old file.now))) (line_told M.reply M.reading_of M.reply_text) (line_state M.next M.entry_of M.reading_of)
-        (HoldsAt (meaning M.next M.spelled M.first) (S.log cabinet.new file.now) (S.may_leave cabinet.new file.now)) (I.left input.old) (I.left input.new) (O.holds output.old) (O.holds output.new) (S.faults cabinet.old) (S.faults cabinet.new) }
+        → ((input.new ≡ input.old) × (output.new ≡ output.old) × LeavesAlone S.tells S.log S.may_leave cabinet.old cabinet.new file.now) ⊎ OverFile AnswersFirst (meaning M.next M.spelled M.first) (line_told M.reply M.reading_of M.reply_text) (line_state M.next M.entry_of M.reading_of)
+        S.tells S.log S.may_leave S.faults cabinet.old cabinet.new I.left input.old input.new O.holds output.old output.new file.now }
 {
     match cabinet.keeper(file) {
         Ok(keeper) => {
@@ -158,8 +157,8 @@ pub fn run_offline<I: Source, O: Sink, E: Sink, S: Cabinet>(
     ensures others { IfSome (file_named (map string_bytes words.now)) (λ file. (other : List ℕ) → other ≢ file → SameFile (S.tells cabinet.old other) (S.log cabinet.old other) (S.may_leave cabinet.old other) (S.tells cabinet.new other) (S.log cabinet.new other) (S.may_leave cabinet.new other)) }
     ensures unread_store { result ≡ 5 → (input.new ≡ input.old) × (output.new ≡ output.old) }
     ensures unread_row { result ≡ 6 → (input.new ≡ input.old) × (output.new ≡ output.old) }
-    ensures alone_store { result ≡ 5 → IfSome (file_named (map string_bytes words.now)) (λ file. IsTrue (S.tells cabinet.new file) → IsLeftAlone file (S.tells cabinet.old file) (S.log cabinet.old file) (S.may_leave cabinet.old file) (S.log cabinet.new file) (S.may_leave cabinet.new file)) }
-    ensures alone_row { result ≡ 6 → IfSome (file_named (map string_bytes words.now)) (λ file. IsTrue (S.tells cabinet.new file) → IsLeftAlone file (S.tells cabinet.old file) (S.log cabinet.old file) (S.may_leave cabinet.old file) (S.log cabinet.new file) (S.may_leave cabinet.new file)) }
+    ensures alone_store { result ≡ 5 → IfSome (file_named (map string_bytes words.now)) (λ file. IsTrue (S.tells cabinet.new file) → LeavesAlone S.tells S.log S.may_leave cabinet.old cabinet.new file) }
+    ensures alone_row { result ≡ 6 → IfSome (file_named (map string_bytes words.now)) (λ file. IsTrue (S.tells cabinet.new file) → LeavesAlone S.tells S.log S.may_leave cabinet.old cabinet.new file) }
 
     // The cause of each status.
     ensures read_fault { result ≡ 3 → Rose (I.faults input.old) (I.faults input.new) }
@@ -174,16 +173,16 @@ pub fn run_offline<I: Source, O: Sink, E: Sink, S: Cabinet>(
         → (Rose (I.faults input.old) (I.faults input.new) → ⊥) → (Rose (O.faults output.old) (O.faults output.new) → ⊥) → (Rose (S.faults cabinet.old) (S.faults cabinet.new) → ⊥) → (result ≡ 0) ⊎ (result ≡ 7)) }
 
     // What was answered, and what the file holds then.
-    ensures all { result ≡ 0 → IfSome (file_named (map string_bytes words.now)) (λ file. IsTrue (S.tells cabinet.new file) → AnswersAll (Meant world_of (opened file (S.tells cabinet.old file) (S.log cabinet.old file))) told state
-        (HoldsAt world_of (S.log cabinet.new file) (S.may_leave cabinet.new file)) (I.left input.old) (I.left input.new) (O.holds output.old) (O.holds output.new) (S.faults cabinet.old) (S.faults cabinet.new)) }
-    ensures at_read_fault { result ≡ 3 → IfSome (file_named (map string_bytes words.now)) (λ file. IsTrue (S.tells cabinet.new file) → AnswersEnded (Meant world_of (opened file (S.tells cabinet.old file) (S.log cabinet.old file))) told state
-        (HoldsAt world_of (S.log cabinet.new file) (S.may_leave cabinet.new file)) (I.left input.old) (I.left input.new) (O.holds output.old) (O.holds output.new) (S.faults cabinet.old) (S.faults cabinet.new)) }
-    ensures at_write_fault { result ≡ 4 → IfSome (file_named (map string_bytes words.now)) (λ file. IsTrue (S.tells cabinet.new file) → AnswersFirst (Meant world_of (opened file (S.tells cabinet.old file) (S.log cabinet.old file))) told state
-        (HoldsAt world_of (S.log cabinet.new file) (S.may_leave cabinet.new file)) (I.left input.old) (I.left input.new) (O.holds output.old) (O.holds output.new) (S.faults cabinet.old) (S.faults cabinet.new)) }
-    ensures at_memory { result ≡ 7 → IfSome (file_named (map string_bytes words.now)) (λ file. IsTrue (S.tells cabinet.new file) → ((input.new ≡ input.old) × (output.new ≡ output.old) × IsLeftAlone file (S.tells cabinet.old file) (S.log cabinet.old file) (S.may_leave cabinet.old file) (S.log cabinet.new file) (S.may_leave cabinet.new file)) ⊎ AnswersFirst (Meant world_of (opened file (S.tells cabinet.old file) (S.log cabinet.old file))) told state
-        (HoldsAt world_of (S.log cabinet.new file) (S.may_leave cabinet.new file)) (I.left input.old) (I.left input.new) (O.holds output.old) (O.holds output.new) (S.faults cabinet.old) (S.faults cabinet.new)) }
-    ensures at_too_long { result ≡ 8 → IfSome (file_named (map string_bytes words.now)) (λ file. IsTrue (S.tells cabinet.new file) → AnswersLong (Meant world_of (opened file (S.tells cabinet.old file) (S.log cabinet.old file))) told state
-        (HoldsAt world_of (S.log cabinet.new file) (S.may_leave cabinet.new file)) (I.left input.old) (I.left input.new) (O.holds output.old) (O.holds output.new) (S.faults cabinet.old) (S.faults cabinet.new)) }
+    ensures all { result ≡ 0 → IfSome (file_named (map string_bytes words.now)) (λ file. IsTrue (S.tells cabinet.new file) → OverFile AnswersAll world_of told state
+        S.tells S.log S.may_leave S.faults cabinet.old cabinet.new I.left input.old input.new O.holds output.old output.new file) }
+    ensures at_read_fault { result ≡ 3 → IfSome (file_named (map string_bytes words.now)) (λ file. IsTrue (S.tells cabinet.new file) → OverFile AnswersEnded world_of told state
+        S.tells S.log S.may_leave S.faults cabinet.old cabinet.new I.left input.old input.new O.holds output.old output.new file) }
+    ensures at_write_fault { result ≡ 4 → IfSome (file_named (map string_bytes words.now)) (λ file. IsTrue (S.tells cabinet.new file) → OverFile AnswersFirst world_of told state
+        S.tells S.log S.may_leave S.faults cabinet.old cabinet.new I.left input.old input.new O.holds output.old output.new file) }
+    ensures at_memory { result ≡ 7 → IfSome (file_named (map string_bytes words.now)) (λ file. IsTrue (S.tells cabinet.new file) → ((input.new ≡ input.old) × (output.new ≡ output.old) × LeavesAlone S.tells S.log S.may_leave cabinet.old cabinet.new file) ⊎ OverFile AnswersFirst world_of told state
+        S.tells S.log S.may_leave S.faults cabinet.old cabinet.new I.left input.old input.new O.holds output.old output.new file) }
+    ensures at_too_long { result ≡ 8 → IfSome (file_named (map string_bytes words.now)) (λ file. IsTrue (S.tells cabinet.new file) → OverFile AnswersLong world_of told state
+        S.tells S.log S.may_leave S.faults cabinet.old cabinet.new I.left input.old input.new O.holds output.old output.new file) }
 {
     match file_of(words) {
         Some(file) => {

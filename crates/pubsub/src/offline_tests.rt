@@ -1,13 +1,10 @@
 //! Whole runs, against answers that were written by hand from the rules.
 
-use crate::cabinet::Cabinet;
-use crate::edge::{Failed, Got, Sink, Source};
-use crate::memory::{MemorySink, MemorySource};
-use crate::memory_cabinet::MemoryCabinet;
 use crate::offline::{answer_all, run_offline};
 use crate::status::Status;
-use crate::topics::Topics;
 use ps_base::{List, Octets};
+use ps_core::Topics;
+use ps_edge::{Cabinet, Failed, Got, MemoryCabinet, MemorySink, MemorySource, Sink, Source};
 use ps_keeper::{Keeper, KeeperError, MemoryKeeper, Row, When};
 use std::alloc::Global;
 use std::process::Abort;

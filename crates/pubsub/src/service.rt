@@ -1,14 +1,13 @@
 use crate::line::read_line;
 use crate::protocol::{Protocol, Reading};
-use crate::reply::print_reply;
-use crate::topics::Topics;
 use ps_base::{Octets, OutOfMemory};
-use ps_model::{Command, Reply};
+use ps_core::{Command, Reply, Topics};
+use ps_json::print_reply;
 use std::alloc::Global;
 
 impl Protocol for Topics {
     ghost use Rattle.pubsub.specs.Reading as spec;
-    ghost use Rattle.pubsub.specs.Replies.{reply_text};
+    ghost use Rattle.ps_json.specs.Replies.{reply_text};
 
     ghost reading_of = { spec.reading_of };
 

@@ -1,11 +1,11 @@
 ghost use Rattle.std.specs.Prelude.{◌≡◌, ◌++◌, take, ℕ, option_map, OnOk, OnErr};
-ghost use Rattle.pubsub.specs.Edge.{HasWriteCause};
+ghost use Rattle.ps_edge.specs.Edge.{HasWriteCause};
 ghost use Rattle.pubsub.specs.Statuses.{code_of, status_text, begin_status, run_status, IsTold};
 
 use crate::batch::End;
-use crate::edge::{Failed, Sink, write_all};
 use itoa::Buffer;
 use ps_book::BeginError;
+use ps_edge::{Failed, Sink, write_all};
 
 /// How the program ends.
 #[derive(Clone, Copy, PartialEq, Eq)]

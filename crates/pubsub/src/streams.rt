@@ -1,6 +1,6 @@
 ghost use Rattle.std.specs.Prelude.{◌≡◌, None};
 
-use crate::edge::{Failed, Got, Sink, Source};
+use ps_edge::{Failed, Got, Sink, Source};
 use std::io::{Read, Write};
 
 /// A reader as a source. What is left to read isn't told.

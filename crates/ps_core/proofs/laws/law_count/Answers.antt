@@ -1,0 +1,5 @@
+use Rattle.ps_core.specs.Laws.{counts_entries}
+use Rattle.ps_core.proofs.laws.law_count.Goals as goal
+
+pub returns : goal.returns
+returns c = counts_entries

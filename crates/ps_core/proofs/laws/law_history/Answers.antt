@@ -1,0 +1,5 @@
+use Rattle.ps_core.proofs.Accepting.{histories_lead}
+use Rattle.ps_core.proofs.laws.law_history.Goals as goal
+
+pub returns : goal.returns
+returns c = histories_lead

@@ -1,0 +1,4 @@
+pub mod Edge
+pub mod Files
+pub mod Memory
+pub mod Slots

@@ -1,0 +1,59 @@
+ghost use Rattle.std.specs.Prelude.{◌≡◌, ◌<◌, ◌≤◌, ◌++◌, ℕ, List, length, take, Option, option_map, MatchResult, IfOk, OnOk};
+ghost use Rattle.ps_edge.specs.Edge.{Takes, HasReadCause, HasWriteCause, Adds};
+
+/// What a read gives: so many bytes, the end, or a fault.
+#[derive(Clone, Copy, PartialEq, Eq)]
+pub enum Got {
+    Bytes(usize),
+    End,
+    Failed,
+}
+
+/// A write that took nothing.
+#[derive(Clone, Copy, PartialEq, Eq)]
+pub struct Failed;
+
+/// Where the bytes of an input come from.
+pub trait Source {
+    /// What is left to read, where that is told.
+    ghost left: { Self → Option (List ℕ) };
+
+    /// How often a read failed.
+    ghost faults: { Self → ℕ };
+
+    /// Reads some bytes into the front of the room. After a fault it may be called again.
+    fn read(&mut self, room: &mut [u8]) -> Got
+        requires { 0 < length room.old }
+        ensures bytes { Takes (left self.old) (left self.new) room.new result }
+        ensures cause { HasReadCause (faults self.old) (faults self.new) result };
+}
+
+/// Where the bytes of an output go to.
+pub trait Sink {
+    /// What was written, where that is told.
+    ghost holds: { Self → Option (List ℕ) };
+
+    /// How often a write failed.
+    ghost faults: { Self → ℕ };
+
+    /// Writes some bytes from the front of a piece, and answers how many. A write that fails adds nothing.
+    fn write(&mut self, piece: &[u8]) -> Result<usize, Failed>
+        requires { 0 < length piece.now }
+        ensures took { IfOk result (λ n. (0 < n) × (n ≤ length piece.now)) }
+        ensures bytes { MatchResult result (λ n. Adds (holds self.old) (holds self.new) piece.now n) (λ _. holds self.new ≡ holds self.old) }
+        ensures cause { HasWriteCause (faults self.old) (faults self.new) result };
+}
+
+/// Writes a text whole. After a fault a front of it was written.
+pub fn write_all<O: Sink>(output: &mut O, text: &[u8]) -> Result<(), Failed>
+    ensures whole { OnOk result (O.holds output.new ≡ option_map (λ held. held ++ text.now) (O.holds output.old)) }
+    ensures part { (k : ℕ) × (O.holds output.new ≡ option_map (λ held. held ++ take k text.now) (O.holds output.old)) }
+    ensures cause { HasWriteCause (O.faults output.old) (O.faults output.new) result }
+{
+    let mut done = 0;
+    while done < text.len() {
+        let count = output.write(&text[done..])?;
+        done += count;
+    }
+    Ok(())
+}

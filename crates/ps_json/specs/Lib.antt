@@ -1,0 +1,5 @@
+pub mod Body
+pub mod Fields
+pub mod Line
+pub mod Replies
+pub mod Shown
