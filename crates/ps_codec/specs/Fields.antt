@@ -1,0 +1,22 @@
+-- The bytes of each kind of field: numbers with the high byte first, a flag as one byte, and bytes behind their count.
+use Rattle.std.specs.Prelude.{ℕ, Bool, true, false, List, [], ◌∷◌, ◌++◌, length}
+use Rattle.std.specs.Int.{w32, w64, to_be_bytes}
+
+abbrev pub u8_field : ℕ → List ℕ
+u8_field n = n ∷ []
+
+-- four bytes
+unfoldable pub u32_field : ℕ → List ℕ
+u32_field n = to_be_bytes w32 n
+
+-- eight bytes
+unfoldable pub u64_field : ℕ → List ℕ
+u64_field n = to_be_bytes w64 n
+
+abbrev pub flag_field : Bool → List ℕ
+flag_field false = 0 ∷ []
+flag_field true = 1 ∷ []
+
+-- how many there are, and the bytes
+abbrev pub bytes_field : List ℕ → List ℕ
+bytes_field bytes = u32_field (length bytes) ++ bytes

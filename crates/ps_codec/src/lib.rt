@@ -1,0 +1,15 @@
+//! The fields of a record: numbers, flags and bytes, written one after the other and read again.
+#![tactic(auto)]
+
+mod fault;
+mod laws;
+mod reader;
+mod writer;
+
+pub use fault::FieldError;
+pub use laws::written_is_read;
+pub use reader::FieldReader;
+pub use writer::FieldWriter;
+
+#[cfg(test)]
+mod tests;

@@ -1,0 +1,2 @@
+pub mod PublishLemmas
+pub mod SizeLemmas
