@@ -1,5 +1,5 @@
--- A topic name is short and is ASCII.
-use Rattle.std.proofs.Common.{◌≡◌, ◌+◌, ◌≤◌, ℕ, Bool, true, false, ◌&&◌, ◌==◌, not, nat_lt, nat_le, nat_eq, cond, List, [], ◌∷◌, length, codes, refl, ap, arith}
+-- A name is short and is ASCII.
+use Rattle.std.proofs.Common.{◌≡◌, ◌+◌, ◌≤◌, ℕ, Bool, true, false, ◌&&◌, ◌==◌, not, nat_lt, nat_le, nat_eq, cond, List, [], ◌∷◌, length, codes, refl, ap, ◌∙◌, arith, lit≤}
 use Rattle.std.specs.List.{list_all, starts_with, slice_split, onto_first}
 use Rattle.std.specs.Char.{is_ascii_lowercase, is_ascii_alphabetic}
 use Rattle.std.specs.Str.{bytes_eq, IsAscii, IsUtf8}
@@ -7,7 +7,7 @@ use Rattle.std.proofs.lemmas.Bool.{and_parts, and_from, eqb-true, ltb-true, leb-
 use Rattle.std.proofs.lemmas.Bool.Decides.{nat_tests}
 use Rattle.std.proofs.lemmas.Str.{IsUtf8-from_ascii}
 use Rattle.std.proofs.lemmas.Str.Ascii.{IsAscii-nil, IsAscii-cons}
-use Rattle.ps_model.specs.Names.{is_project_byte, is_id_byte, starts_with_byte, is_project, is_id, parts_of, is_topic_parts, is_topic_name}
+use Rattle.ps_model.specs.Names.{is_project_byte, is_id_byte, starts_with_byte, is_project, is_id, parts_of, is_parts_of, is_topic_name}
 use Rattle.ps_model.proofs.SameLemmas.{exact-bytes}
 
 abbrev pub is_slash : ℕ → Bool
@@ -47,19 +47,19 @@ id_byte_ascii b h = grind (arith, nat_tests)
 
 -- what the grammar says of the parts
 record AreParts (parts : List (List ℕ)) : Type 0 where
-  few : total parts ≤ 336
+  few : total parts ≤ 350
   ascii : list_all is_ascii_part parts ≡ true
 
-are_parts : (parts : List (List ℕ)) → is_topic_parts parts ≡ true → AreParts parts
+are_parts : (kind : List ℕ) → length kind ≤ 20 → is_ascii_part kind ≡ true → (parts : List (List ℕ)) → is_parts_of kind parts ≡ true → AreParts parts
 unfolding total
-are_parts [] h = absurd (false≢true h)
-are_parts (a ∷ []) h = absurd (false≢true h)
-are_parts (a ∷ b ∷ []) h = absurd (false≢true h)
-are_parts (a ∷ b ∷ c ∷ []) h = absurd (false≢true h)
-are_parts (a ∷ b ∷ c ∷ d ∷ e ∷ parts) h = absurd (false≢true h)
-are_parts (projects ∷ project ∷ topics ∷ id ∷ []) h =
-    let three = and_parts (bytes_eq projects (codes "projects") && is_project project && bytes_eq topics (codes "topics")) (is_id id) h in
-    let two = and_parts (bytes_eq projects (codes "projects") && is_project project) (bytes_eq topics (codes "topics")) three.0 in
+are_parts kind short plain [] h = absurd (false≢true h)
+are_parts kind short plain (a ∷ []) h = absurd (false≢true h)
+are_parts kind short plain (a ∷ b ∷ []) h = absurd (false≢true h)
+are_parts kind short plain (a ∷ b ∷ c ∷ []) h = absurd (false≢true h)
+are_parts kind short plain (a ∷ b ∷ c ∷ d ∷ e ∷ parts) h = absurd (false≢true h)
+are_parts kind short plain (projects ∷ project ∷ named ∷ id ∷ []) h =
+    let three = and_parts (bytes_eq projects (codes "projects") && is_project project && bytes_eq named kind) (is_id id) h in
+    let two = and_parts (bytes_eq projects (codes "projects") && is_project project) (bytes_eq named kind) three.0 in
     let one = and_parts (bytes_eq projects (codes "projects")) (is_project project) two.0 in
     let project_parts = and_parts (starts_with_byte is_ascii_lowercase project && nat_le (length project) 63) (list_all is_project_byte project) one.1 in
     let project_short = and_parts (starts_with_byte is_ascii_lowercase project) (nat_le (length project) 63) project_parts.0 in
@@ -67,13 +67,13 @@ are_parts (projects ∷ project ∷ topics ∷ id ∷ []) h =
     let id_bytes = and_parts (starts_with_byte is_ascii_alphabetic id && nat_le 3 (length id) && nat_le (length id) 255) (list_all is_id_byte id) id_parts.0 in
     let id_short = and_parts (starts_with_byte is_ascii_alphabetic id && nat_le 3 (length id)) (nat_le (length id) 255) id_bytes.0 in
     let first : projects ≡ codes "projects" = exact-bytes.one projects (codes "projects") one.0 in
-    let third : topics ≡ codes "topics" = exact-bytes.one topics (codes "topics") two.1 in
+    let third : named ≡ kind = exact-bytes.one named kind two.1 in
     record {
-      few = omega (arith, ap length first, ap length third, leb-true (length project) 63 project_short.1, leb-true (length id) 255 id_short.1);
+      few = omega (arith, ap length first, ap length third, short, leb-true (length project) 63 project_short.1, leb-true (length id) 255 id_short.1);
       ascii =
           and_from (is_ascii_part projects) _ (ap is_ascii_part first)
           (and_from (is_ascii_part project) _ (all_weaker is_project_byte (λ b. nat_lt b 128) project_byte_ascii project project_parts.1)
-          (and_from (is_ascii_part topics) _ (ap is_ascii_part third)
+          (and_from (is_ascii_part named) _ (ap is_ascii_part third ∙ plain)
           (and_from (is_ascii_part id) _ (all_weaker is_id_byte (λ b. nat_lt b 128) id_byte_ascii id id_bytes.1) refl)));
     }
 
@@ -93,11 +93,11 @@ ascii-split (x ∷ xs) h = by (is_slash x) refl (ascii-split xs) h
     by true slash rest h = let at : x ≡ 47 = eqb-true x 47 slash in IsAscii-cons x xs (omega arith) (rest h)
     by false slash rest h = let p = onto (slice_split is_slash xs) h in IsAscii-cons x xs (ltb-true x 128 p.0) (rest p.1)
 
-pub topic_name-short : (text : List ℕ) → is_topic_name text ≡ true → length text ≤ 335
-topic_name-short text h = let split = are_parts (parts_of text) h in omega (arith, split.few, total-split text)
+pub topic_name-short : (text : List ℕ) → is_topic_name text ≡ true → length text ≤ 349
+topic_name-short text h = let split = are_parts (codes "topics") (lit≤ tt) refl (parts_of text) h in omega (arith, split.few, total-split text)
 
 pub topic_name-ascii : (text : List ℕ) → is_topic_name text ≡ true → IsAscii text
-topic_name-ascii text h = let split = are_parts (parts_of text) h in ascii-split text split.ascii
+topic_name-ascii text h = let split = are_parts (codes "topics") (lit≤ tt) refl (parts_of text) h in ascii-split text split.ascii
 
 pub topic_name-utf8 : (text : List ℕ) → is_topic_name text ≡ true → IsUtf8 text
 topic_name-utf8 text h = IsUtf8-from_ascii text (topic_name-ascii text h)

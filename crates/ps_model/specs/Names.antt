@@ -1,5 +1,5 @@
 -- The grammar of resource names (Pub/Sub documentation, "Guidelines to name a topic or a subscription"; the project part is this project's own).
-use Rattle.std.specs.Prelude.{ℕ, List, [], ◌∷◌, length, Bool, false, ◌&&◌, ◌||◌, not, ◌==◌, nat_eq, nat_le, codes}
+use Rattle.std.specs.Prelude.{ℕ, List, [], ◌∷◌, length, Bool, false, ◌&&◌, ◌||◌, not, ◌==◌, nat_eq, nat_le, codes, unwrap_or, slice_get}
 use Rattle.std.specs.List.{list_all, starts_with, slice_split}
 use Rattle.std.specs.Char.{is_ascii_lowercase, is_ascii_alphabetic, is_ascii_alphanumeric, is_ascii_digit}
 use Rattle.std.specs.Str.{bytes_eq}
@@ -28,10 +28,32 @@ is_id part = starts_with_byte is_ascii_alphabetic part && nat_le 3 (length part)
 abbrev pub parts_of : List ℕ → List (List ℕ)
 parts_of text = slice_split (λ b. b == 47) text
 
-abbrev pub is_topic_parts : List (List ℕ) → Bool
-is_topic_parts (projects ∷ project ∷ topics ∷ id ∷ []) = bytes_eq projects (codes "projects") && is_project project && bytes_eq topics (codes "topics") && is_id id
-is_topic_parts _ = false
+-- one of them, from 0; empty where there are fewer
+abbrev pub part : ℕ → List ℕ → List ℕ
+part place text = unwrap_or (slice_get (parts_of text) place) []
 
--- `projects/{project}/topics/{id}`
+-- the parts are `projects`, a project, a kind of resource and an id
+abbrev pub is_parts_of : List ℕ → List (List ℕ) → Bool
+is_parts_of kind (projects ∷ project ∷ named ∷ id ∷ []) = bytes_eq projects (codes "projects") && is_project project && bytes_eq named kind && is_id id
+is_parts_of kind _ = false
+
+-- `projects/{project}/{kind}/{id}`
+abbrev pub is_name_of : List ℕ → List ℕ → Bool
+is_name_of kind text = is_parts_of kind (parts_of text)
+
 abbrev pub is_topic_name : List ℕ → Bool
-is_topic_name text = is_topic_parts (parts_of text)
+is_topic_name = is_name_of (codes "topics")
+
+abbrev pub is_sub_name : List ℕ → Bool
+is_sub_name = is_name_of (codes "subscriptions")
+
+abbrev pub is_snap_name : List ℕ → Bool
+is_snap_name = is_name_of (codes "snapshots")
+
+-- the project in the name of a resource
+abbrev pub project_part : List ℕ → List ℕ
+project_part = part 1
+
+-- the id in the name of a resource
+abbrev pub id_part : List ℕ → List ℕ
+id_part = part 3

@@ -1,27 +1,17 @@
-ghost use Rattle.ps_model.specs.Laws.{AcceptsWhatIsRecorded, CountsEntries, HistoriesLead, ReadsBack, ReadsNothingElse, RecordsWhatItAnswers};
+ghost use Rattle.ps_model.specs.Laws.{DeliverableInTurn, EmptyWhereNothingIs, StartsSound};
 
-/// An entry is read back from its bytes, and from no other bytes.
-pub fn law_spelling()
-    ensures back { ReadsBack }
-    ensures nothing_else { ReadsNothingElse }
+/// A message is deliverable where it is ready, and each earlier unacknowledged message of its key is leased
+/// or deliverable.
+pub fn law_in_turn()
+    ensures { DeliverableInTurn }
 {}
 
-/// Each accepted entry is counted.
-pub fn law_count()
-    ensures { CountsEntries }
+/// The empty world is sound.
+pub fn law_starts_sound()
+    ensures { StartsSound }
 {}
 
-/// An entry is accepted exactly where it is what would be recorded of its own command at its own moment.
-pub fn law_accepted()
-    ensures { AcceptsWhatIsRecorded }
-{}
-
-/// What is recorded of a call follows from its answer: its command at its moment, or nothing.
-pub fn law_recorded()
-    ensures { RecordsWhatItAnswers }
-{}
-
-/// Entries lead to a world one by one exactly where they are a history, and it is the world after them.
-pub fn law_history()
-    ensures { HistoriesLead }
+/// A pull that may take a message and isn't refused is empty exactly where nothing is deliverable.
+pub fn law_5()
+    ensures { EmptyWhereNothingIs }
 {}

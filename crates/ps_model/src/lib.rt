@@ -2,16 +2,38 @@
 #![tactic(auto)]
 
 mod command;
+mod config;
+mod examples;
+mod grammar;
+mod hold;
 mod laws;
+mod mark;
 mod names;
 mod reply;
+mod stat;
 mod world;
 
-pub use command::{Command, Entry};
-pub use laws::{law_accepted, law_count, law_history, law_recorded, law_spelling};
-pub use names::{TopicName, parts_of};
-pub use reply::{Reply, TopicShown};
-pub use world::{TopicRow, World};
+pub use command::{Command, Entry, Paging};
+pub use config::{DeadLetterPolicy, Mask, RetryPolicy, SubConfig, TopicConfig};
+pub use examples::{
+    acknowledge_examples, dead_letter_examples, dead_standing_examples, deadline_examples,
+    detach_examples, falling_back_examples, filter_examples, filter_fault_examples,
+    filter_key_examples, filter_place_examples, filtered_examples, forwarded_examples,
+    lease_examples, list_examples, load_examples, modify_once_examples, moment_examples,
+    ordered_once_examples, ordering_examples, policy_examples, publish_examples,
+    publish_limit_examples, pull_examples, refusal_examples, remade_examples,
+    request_size_examples, retention_examples, retry_examples, session_examples, setting_examples,
+    snapshot_examples, snapshot_seek_examples, standing_examples, subscription_examples,
+    time_seek_examples, timestamp_examples, topic_examples,
+};
+pub use grammar::parts_of;
+pub use hold::{Hold, Holds};
+pub use laws::{law_5, law_in_turn, law_starts_sound};
+pub use mark::{DeadLetter, DoneCause, GoneCause, Handed, Item, Mark, Slot, Ticket};
+pub use names::{ProjectName, SnapName, SubName, TopicName};
+pub use reply::{PageItems, ReceivedMessage, Reply, SnapShown, SubShown, TopicShown};
+pub use stat::Stat;
+pub use world::{MarkRow, MessageRow, SnapRow, SubRow, TopicRow, World};
 
 #[cfg(test)]
 mod tests;

@@ -1,15 +1,22 @@
-ghost use Rattle.std.specs.Prelude.{◌≡◌, true, IfOk, Some, None, if◌then◌else◌, map};
+ghost use Rattle.std.specs.Prelude.{◌≡◌, true, IfOk, Some, None, if◌then◌else◌};
 ghost use Rattle.std.specs.Str.{bytes_eq};
-ghost use Rattle.std.specs.List.{list_all};
-ghost use Rattle.std.specs.Char.{is_ascii_lowercase, is_ascii_alphabetic};
-ghost use Rattle.ps_model.specs.Names.{is_topic_name, is_topic_parts, parts_of, starts_with_byte, is_project, is_id, is_project_byte, is_id_byte};
+ghost use Rattle.ps_model.specs.Names.{is_name_of, is_topic_name, is_sub_name, is_snap_name, is_project, project_part, id_part};
 
+use crate::grammar::{is_parts_of, is_project, part, parts_of};
 use ps_base::{Duplicate, OutOfMemory, Text};
 use std::alloc::Global;
 use std::marker::Model;
 
+/// Whether a text is the name of this kind of resource. Only memory can be wanting.
+fn is_name_of(alloc: Global, kind: &str, text: &str) -> Result<bool, OutOfMemory>
+    ensures { IfOk result (λ is_name. is_name ≡ is_name_of kind.now text.now) }
+{
+    let parts = parts_of(alloc, text)?;
+    Ok(is_parts_of(kind, parts.as_slice()))
+}
+
 /// The name of a topic, `projects/{project}/topics/{id}`.
-#[derive(Drop)]
+#[derive(Clone, Drop)]
 pub struct TopicName {
     text: Text,
 }
@@ -30,13 +37,11 @@ impl TopicName {
     pub fn read(alloc: Global, text: &str) -> Result<Option<TopicName>, OutOfMemory>
         ensures { IfOk result (λ name. name ≡ (if is_topic_name text.now then Some text.now else None)) }
     {
-        let parts = parts_of(alloc, text)?;
-        if !is_topic_parts(parts.as_slice()) {
+        if !is_name_of(alloc, "topics", text)? {
             return Ok(None);
         }
-        Ok(Some(TopicName {
-            text: Text::from_str(alloc, text)?,
-        }))
+        let text = Text::from_str(alloc, text)?;
+        Ok(Some(TopicName { text }))
     }
 
     pub fn text(&self) -> &str
@@ -44,6 +49,20 @@ impl TopicName {
         ensures grammar { is_topic_name self.now ≡ true }
     {
         self.text.as_str()
+    }
+
+    /// The project's part of the name.
+    pub fn project(&self) -> &str
+        ensures { result.now ≡ project_part self.now }
+    {
+        part(self.text.as_str(), 1)
+    }
+
+    /// The last part of the name.
+    pub fn id(&self) -> &str
+        ensures { result.now ≡ id_part self.now }
+    {
+        part(self.text.as_str(), 3)
     }
 
     pub fn is_same(&self, other: &TopicName) -> bool
@@ -54,87 +73,176 @@ impl TopicName {
 }
 
 impl Duplicate for TopicName {
-    fn copy(&self, alloc: Global) -> Result<TopicName, OutOfMemory> {
-        Ok(TopicName {
-            text: self.text.copy(alloc)?,
-        })
+    fn copy(&self, _alloc: Global) -> Result<TopicName, OutOfMemory> {
+        Ok(self.clone()?)
     }
 }
 
-/// The parts of a text between its slashes.
-pub fn parts_of<'a>(alloc: Global, text: &'a str) -> Result<Vec<&'a str>, OutOfMemory>
-    ensures { IfOk result (λ parts. map (λ part. part.now) parts.items ≡ parts_of text.now) }
-{
-    Ok(text.split('/').collect(alloc)?)
+/// The name of a subscription, `projects/{project}/subscriptions/{id}`.
+#[derive(Clone, Drop)]
+pub struct SubName {
+    text: Text,
 }
 
-fn is_topic_parts(parts: &[&str]) -> bool
-    ensures { result ≡ is_topic_parts (map (λ part. part.now) parts.now) }
-{
-    match parts {
-        [projects, project, topics, id] => {
-            *projects == "projects" && is_project(project) && *topics == "topics" && is_id(id)
+impl Model for SubName {
+    ghost use Rattle.std.specs.Prelude.{List, ℕ, ◌≡◌, true};
+    ghost use Rattle.ps_model.specs.Names.{is_sub_name};
+
+    ghost Value = { List ℕ };
+
+    ghost view = { λ it. it.text };
+
+    ghost invariant = { λ it. is_sub_name it.text ≡ true };
+}
+
+impl SubName {
+    /// The name that this text is. None exactly where it is outside the grammar.
+    pub fn read(alloc: Global, text: &str) -> Result<Option<SubName>, OutOfMemory>
+        ensures { IfOk result (λ name. name ≡ (if is_sub_name text.now then Some text.now else None)) }
+    {
+        if !is_name_of(alloc, "subscriptions", text)? {
+            return Ok(None);
         }
-        _ => false,
+        let text = Text::from_str(alloc, text)?;
+        Ok(Some(SubName { text }))
+    }
+
+    pub fn text(&self) -> &str
+        ensures value { result.now ≡ self.now }
+        ensures grammar { is_sub_name self.now ≡ true }
+    {
+        self.text.as_str()
+    }
+
+    /// The project's part of the name.
+    pub fn project(&self) -> &str
+        ensures { result.now ≡ project_part self.now }
+    {
+        part(self.text.as_str(), 1)
+    }
+
+    /// The last part of the name.
+    pub fn id(&self) -> &str
+        ensures { result.now ≡ id_part self.now }
+    {
+        part(self.text.as_str(), 3)
+    }
+
+    pub fn is_same(&self, other: &SubName) -> bool
+        ensures { result ≡ bytes_eq self.now other.now }
+    {
+        self.text.is_same(&other.text)
     }
 }
 
-fn is_project(part: &str) -> bool
-    ensures { result ≡ is_project part.now }
-{
-    let bytes = part.as_bytes();
-    starts_in_lower_case(bytes) && bytes.len() <= 63 && has_project_bytes(bytes)
-}
-
-fn starts_in_lower_case(bytes: &[u8]) -> bool
-    ensures { result ≡ starts_with_byte is_ascii_lowercase bytes.now }
-{
-    match bytes {
-        [first, ..] => first.is_ascii_lowercase(),
-        [] => false,
+impl Duplicate for SubName {
+    fn copy(&self, _alloc: Global) -> Result<SubName, OutOfMemory> {
+        Ok(self.clone()?)
     }
 }
 
-fn has_project_bytes(bytes: &[u8]) -> bool
-    ensures { result ≡ list_all is_project_byte bytes.now }
-{
-    bytes.iter().all(|b| is_project_byte(*b))
+/// The name of a snapshot, `projects/{project}/snapshots/{id}`.
+#[derive(Clone, Drop)]
+pub struct SnapName {
+    text: Text,
 }
 
-fn is_project_byte(b: u8) -> bool
-    ensures { result ≡ is_project_byte b }
-{
-    b.is_ascii_lowercase() || b.is_ascii_digit() || b == b'-' || b == b':' || b == b'.'
+impl Model for SnapName {
+    ghost use Rattle.std.specs.Prelude.{List, ℕ, ◌≡◌, true};
+    ghost use Rattle.ps_model.specs.Names.{is_snap_name};
+
+    ghost Value = { List ℕ };
+
+    ghost view = { λ it. it.text };
+
+    ghost invariant = { λ it. is_snap_name it.text ≡ true };
 }
 
-fn is_id(part: &str) -> bool
-    ensures { result ≡ is_id part.now }
-{
-    let bytes = part.as_bytes();
-    starts_with_letter(bytes)
-        && 3 <= bytes.len()
-        && bytes.len() <= 255
-        && has_id_bytes(bytes)
-        && !bytes.starts_with(b"goog")
-}
+impl SnapName {
+    /// The name that this text is. None exactly where it is outside the grammar.
+    pub fn read(alloc: Global, text: &str) -> Result<Option<SnapName>, OutOfMemory>
+        ensures { IfOk result (λ name. name ≡ (if is_snap_name text.now then Some text.now else None)) }
+    {
+        if !is_name_of(alloc, "snapshots", text)? {
+            return Ok(None);
+        }
+        let text = Text::from_str(alloc, text)?;
+        Ok(Some(SnapName { text }))
+    }
 
-fn starts_with_letter(bytes: &[u8]) -> bool
-    ensures { result ≡ starts_with_byte is_ascii_alphabetic bytes.now }
-{
-    match bytes {
-        [first, ..] => first.is_ascii_alphabetic(),
-        [] => false,
+    pub fn text(&self) -> &str
+        ensures value { result.now ≡ self.now }
+        ensures grammar { is_snap_name self.now ≡ true }
+    {
+        self.text.as_str()
+    }
+
+    /// The project's part of the name.
+    pub fn project(&self) -> &str
+        ensures { result.now ≡ project_part self.now }
+    {
+        part(self.text.as_str(), 1)
+    }
+
+    /// The last part of the name.
+    pub fn id(&self) -> &str
+        ensures { result.now ≡ id_part self.now }
+    {
+        part(self.text.as_str(), 3)
+    }
+
+    pub fn is_same(&self, other: &SnapName) -> bool
+        ensures { result ≡ bytes_eq self.now other.now }
+    {
+        self.text.is_same(&other.text)
     }
 }
 
-fn has_id_bytes(bytes: &[u8]) -> bool
-    ensures { result ≡ list_all is_id_byte bytes.now }
-{
-    bytes.iter().all(|b| is_id_byte(*b))
+impl Duplicate for SnapName {
+    fn copy(&self, _alloc: Global) -> Result<SnapName, OutOfMemory> {
+        Ok(self.clone()?)
+    }
 }
 
-fn is_id_byte(b: u8) -> bool
-    ensures { result ≡ is_id_byte b }
-{
-    b.is_ascii_alphanumeric() || matches!(b, b'-' | b'_' | b'.' | b'~' | b'+' | b'%')
+/// The part of a name that names a project.
+#[derive(Clone, Drop)]
+pub struct ProjectName {
+    text: Text,
+}
+
+impl Model for ProjectName {
+    ghost use Rattle.std.specs.Prelude.{List, ℕ, ◌≡◌, true};
+    ghost use Rattle.ps_model.specs.Names.{is_project};
+
+    ghost Value = { List ℕ };
+
+    ghost view = { λ it. it.text };
+
+    ghost invariant = { λ it. is_project it.text ≡ true };
+}
+
+impl ProjectName {
+    /// The project's part that this text is. None exactly where it is outside the grammar.
+    pub fn read(alloc: Global, text: &str) -> Result<Option<ProjectName>, OutOfMemory>
+        ensures { IfOk result (λ name. name ≡ (if is_project text.now then Some text.now else None)) }
+    {
+        if !is_project(text) {
+            return Ok(None);
+        }
+        let text = Text::from_str(alloc, text)?;
+        Ok(Some(ProjectName { text }))
+    }
+
+    pub fn text(&self) -> &str
+        ensures value { result.now ≡ self.now }
+        ensures grammar { is_project self.now ≡ true }
+    {
+        self.text.as_str()
+    }
+}
+
+impl Duplicate for ProjectName {
+    fn copy(&self, _alloc: Global) -> Result<ProjectName, OutOfMemory> {
+        Ok(self.clone()?)
+    }
 }

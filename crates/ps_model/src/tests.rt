@@ -1,4 +1,5 @@
 use super::*;
+use ps_base::{Duplicate, Labels, Text};
 use std::alloc::Global;
 use std::test::Fail;
 
@@ -61,5 +62,120 @@ fn topic_names_have_their_lengths(rt: HostRuntime) -> Result<(), Fail> {
             "{project} {id}"
         );
     }
+    Ok(())
+}
+
+#[test]
+fn names_of_subscriptions_and_snapshots_have_their_own_kind(rt: HostRuntime) -> Result<(), Fail> {
+    let alloc = rt.alloc();
+    let table = [
+        ("projects/p/topics/abc", (false, false)),
+        ("projects/p/subscriptions/abc", (true, false)),
+        ("projects/p/subscriptions/ab", (false, false)),
+        ("projects/p/subscriptions/goog", (false, false)),
+        ("projects/p/snapshots/abc", (false, true)),
+        ("projects/p/snapshots/1bc", (false, false)),
+        ("projects/P/snapshots/abc", (false, false)),
+        ("projects/p/snapshots/abc/x", (false, false)),
+    ];
+    for (text, (is_sub, is_snap)) in table {
+        assert_eq!(rt; SubName::read(alloc, text)?.is_some(), is_sub, "{text}");
+        assert_eq!(rt; SnapName::read(alloc, text)?.is_some(), is_snap, "{text}");
+    }
+    assert!(rt; ProjectName::read(alloc, "shop-prod")?.is_some());
+    assert!(rt; ProjectName::read(alloc, "")?.is_none());
+    assert!(rt; ProjectName::read(alloc, "9shop")?.is_none());
+    Ok(())
+}
+
+#[test]
+fn topics_tell_their_parts(rt: HostRuntime) -> Result<(), Fail> {
+    let topic = topic(rt.alloc())?;
+    assert_eq!(rt; topic.project(), "p");
+    assert_eq!(rt; topic.id(), "abc");
+    Ok(())
+}
+
+#[test]
+fn subscriptions_tell_their_parts(rt: HostRuntime) -> Result<(), Fail> {
+    let sub = sub(rt.alloc())?;
+    assert_eq!(rt; sub.project(), "p");
+    assert_eq!(rt; sub.id(), "sub");
+    Ok(())
+}
+
+#[test]
+fn snapshots_tell_their_parts(rt: HostRuntime) -> Result<(), Fail> {
+    let snap = snap(rt.alloc())?;
+    assert_eq!(rt; snap.project(), "p");
+    assert_eq!(rt; snap.id(), "snap");
+    Ok(())
+}
+
+fn topic(alloc: Global) -> Result<TopicName, Fail> {
+    Ok(TopicName::read(alloc, "projects/p/topics/abc")?.ok_or("no topic")?)
+}
+
+fn sub(alloc: Global) -> Result<SubName, Fail> {
+    Ok(SubName::read(alloc, "projects/p/subscriptions/sub")?.ok_or("no subscription")?)
+}
+
+fn snap(alloc: Global) -> Result<SnapName, Fail> {
+    Ok(SnapName::read(alloc, "projects/p/snapshots/snap")?.ok_or("no snapshot")?)
+}
+
+fn project(alloc: Global) -> Result<ProjectName, Fail> {
+    Ok(ProjectName::read(alloc, "p")?.ok_or("no project")?)
+}
+
+fn settings(alloc: Global) -> Result<SubConfig, Fail> {
+    Ok(SubConfig {
+        ack_seconds: 10,
+        retain_acked: false,
+        retention: 604800000,
+        labels: Labels::new(alloc),
+        ordering: true,
+        expiration: Some(2678400000),
+        filter: Text::from_str(alloc, "attributes:a")?,
+        dead_letter: Some(DeadLetterPolicy {
+            topic: topic(alloc)?,
+            attempts: 5,
+        }),
+        retry: Some(RetryPolicy {
+            least: 10000,
+            most: 60000,
+        }),
+        exactly_once: false,
+    })
+}
+
+fn topic_settings(alloc: Global) -> TopicConfig {
+    TopicConfig {
+        labels: Labels::new(alloc),
+        retention: Some(600000),
+    }
+}
+
+#[test]
+fn names_are_copied(rt: HostRuntime) -> Result<(), Fail> {
+    let alloc = rt.alloc();
+    assert!(rt; topic(alloc)?.copy(alloc).is_ok());
+    assert!(rt; sub(alloc)?.copy(alloc).is_ok());
+    assert!(rt; snap(alloc)?.copy(alloc).is_ok());
+    assert!(rt; project(alloc)?.copy(alloc).is_ok());
+    Ok(())
+}
+
+#[test]
+fn settings_of_topics_are_copied(rt: HostRuntime) -> Result<(), Fail> {
+    let alloc = rt.alloc();
+    assert!(rt; topic_settings(alloc).copy(alloc).is_ok());
+    Ok(())
+}
+
+#[test]
+fn settings_of_subscriptions_are_copied(rt: HostRuntime) -> Result<(), Fail> {
+    let alloc = rt.alloc();
+    assert!(rt; settings(alloc)?.copy(alloc).is_ok());
     Ok(())
 }

@@ -1,5 +1,8 @@
-use crate::names::TopicName;
-use ps_base::List;
+use crate::config::{SubConfig, TopicConfig};
+use crate::mark::Mark;
+use crate::names::{SnapName, SubName, TopicName};
+use ps_base::{Labels, List};
+use ps_message::Message;
 
 /// The whole state of the service.
 #[derive(Drop)]
@@ -8,9 +11,16 @@ pub struct World {
     pub now: u64,
     /// How many entries were recorded.
     pub count: u64,
-    /// The number of the next topic.
     pub next_topic: u64,
+    pub next_sub: u64,
+    pub next_snap: u64,
+    pub next_message: u64,
     pub topics: List<TopicRow>,
+    pub subs: List<SubRow>,
+    pub snaps: List<SnapRow>,
+    pub messages: List<MessageRow>,
+    /// One for each pair of a subscription and a message that ever entered it, in order of both.
+    pub marks: List<MarkRow>,
 }
 
 /// A topic that there is. Its number is never given again, its name may be.
@@ -18,4 +28,56 @@ pub struct World {
 pub struct TopicRow {
     pub number: u64,
     pub name: TopicName,
+    pub config: TopicConfig,
+}
+
+/// A subscription that there is.
+#[derive(Drop)]
+pub struct SubRow {
+    pub number: u64,
+    pub name: SubName,
+    /// The number of its topic, which may have been deleted.
+    pub topic: u64,
+    pub config: SubConfig,
+    /// Whether nothing enters any more, and all that had entered is gone.
+    pub detached: bool,
+    /// The number of the next lease, from 1.
+    pub next_lease: u64,
+}
+
+/// A snapshot that there is.
+#[derive(Drop)]
+pub struct SnapRow {
+    pub number: u64,
+    pub name: SnapName,
+    /// The number of its topic, which may have been deleted.
+    pub topic: u64,
+    pub labels: Labels,
+    /// The messages up to `bound` that it holds, by number.
+    pub listed: List<u64>,
+    /// All later messages of the topic are held too.
+    pub bound: u64,
+    /// When it ends, in milliseconds since 1970.
+    pub expiry: u64,
+}
+
+/// A message that was published.
+#[derive(Drop)]
+pub struct MessageRow {
+    pub number: u64,
+    /// The number of its topic, which may have been deleted.
+    pub topic: u64,
+    /// When it was published, in milliseconds since 1970.
+    pub publish: u64,
+    pub message: Message,
+    /// Whether something still wants it. Once false, it stays so.
+    pub kept: bool,
+}
+
+/// Where a message stands on a subscription, both by number.
+#[derive(Clone, Copy, PartialEq, Eq)]
+pub struct MarkRow {
+    pub sub: u64,
+    pub message: u64,
+    pub mark: Mark,
 }

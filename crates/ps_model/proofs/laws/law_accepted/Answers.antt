@@ -1,5 +1,0 @@
-use Rattle.ps_model.proofs.Accepting.{accepts_what_is_recorded}
-use Rattle.ps_model.proofs.laws.law_accepted.Goals as goal
-
-pub returns : goal.returns
-returns c = accepts_what_is_recorded

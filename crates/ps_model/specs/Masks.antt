@@ -1,0 +1,46 @@
+-- Masks of updates, and settings with the masked fields changed (API reference, UpdateTopic and UpdateSubscription; a bit for each field is this project's own).
+use Rattle.std.specs.Prelude.{ℕ, ◌/◌, ◌%◌, ◌^◌, Bool, false, not, ◌&&◌, nat_eq, nat_lt, [], Some, None, if◌then◌else◌}
+use Rattle.ps_model.specs.declared.config.TopicConfig.{TopicConfig}
+use Rattle.ps_model.specs.declared.config.SubConfig.{SubConfig}
+use Rattle.ps_model.specs.declared.config.Mask.{Mask}
+
+-- Of a topic the bits from 0 are labels and retention. Of a subscription they are the seconds of a lease, whether acknowledged messages are retained, retention, labels, expiration, dead letters, retry, exactly-once mode, and push settings, which this project doesn't keep.
+abbrev pub has_bit : Mask → ℕ → Bool
+has_bit mask bit = nat_eq ((mask.0 / 2 ^ bit) % 2) 1
+
+-- some bit, and none past these many
+abbrev pub is_mask : ℕ → Mask → Bool
+is_mask bits mask = not (nat_eq mask.0 0) && nat_lt mask.0 (2 ^ bits)
+
+-- every field
+abbrev pub whole_mask : Mask
+whole_mask = record { 0 = 511 }
+
+-- what absent fields mean
+abbrev pub default_topic : TopicConfig
+default_topic = record { labels = []; retention = None }
+
+-- leases of 10 seconds, messages kept for 7 days, and the subscription for 31 days without use
+abbrev pub default_sub : SubConfig
+default_sub = record { ack_seconds = 10; retain_acked = false; retention = 604800000; labels = []; ordering = false; expiration = Some 2678400000; filter = []; dead_letter = None; retry = None; exactly_once = false }
+
+abbrev pub masked_topic : Mask → TopicConfig → TopicConfig → TopicConfig
+masked_topic mask old new = record {
+  labels = if has_bit mask 0 then new.labels else old.labels;
+  retention = if has_bit mask 1 then new.retention else old.retention;
+}
+
+-- ordering and the filter can't be changed
+abbrev pub masked_sub : Mask → SubConfig → SubConfig → SubConfig
+masked_sub mask old new = record {
+  ack_seconds = if has_bit mask 0 then new.ack_seconds else old.ack_seconds;
+  retain_acked = if has_bit mask 1 then new.retain_acked else old.retain_acked;
+  retention = if has_bit mask 2 then new.retention else old.retention;
+  labels = if has_bit mask 3 then new.labels else old.labels;
+  ordering = old.ordering;
+  expiration = if has_bit mask 4 then new.expiration else old.expiration;
+  filter = old.filter;
+  dead_letter = if has_bit mask 5 then new.dead_letter else old.dead_letter;
+  retry = if has_bit mask 6 then new.retry else old.retry;
+  exactly_once = if has_bit mask 7 then new.exactly_once else old.exactly_once;
+}
