@@ -9,11 +9,11 @@ use Rattle.std.proofs.Math.Seq.{drop-append_seam, take-append_seam}
 use Rattle.ps_core.specs.declared.command.Command.{Command}
 use Rattle.ps_core.specs.declared.command.Command.TheVariants.{Tick, CreateTopic}
 use Rattle.ps_core.specs.declared.command.Entry.{Entry}
-use Rattle.ps_model.specs.Names.{is_topic_name}
+use Rattle.ps_names.specs.Names.{is_topic_name}
 use Rattle.ps_core.specs.Spelling.{text_field, plain_config, command_bytes, entry_bytes, told_length, topic_in, command_in, entry_in, CanWriteCommand}
 use Rattle.ps_core.specs.Laws.{ReadsBack, ReadsNothingElse}
 use Rattle.ps_core.proofs.SameLemmas.{exact-bytes}
-use Rattle.ps_model.proofs.NameLemmas.{topic_name-short}
+use Rattle.ps_names.proofs.NameLemmas.{topic_name-short}
 
 -- the creation behind a length
 abbrev pub topic_at : ℕ → List ℕ → Option Command

@@ -3,7 +3,7 @@ use Rattle.std.specs.Prelude.{◌≡◌, ◌≤◌, ℕ, List, [], ◌∷◌, �
 use Rattle.std.specs.Int.{from_be_bytes, to_be_bytes, w32, w64}
 use Rattle.std.specs.Str.{bytes_eq}
 use Rattle.ps_base.specs.Moments.{last_moment}
-use Rattle.ps_model.specs.Names.{is_topic_name}
+use Rattle.ps_names.specs.Names.{is_topic_name}
 use Rattle.ps_core.specs.declared.command.Command.{Command}
 use Rattle.ps_core.specs.declared.command.Command.TheVariants.{Tick, CreateTopic}
 use Rattle.ps_core.specs.declared.command.Entry.{Entry}

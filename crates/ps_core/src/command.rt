@@ -1,5 +1,5 @@
 use ps_base::{Duplicate, OutOfMemory};
-use ps_model::TopicName;
+use ps_names::TopicName;
 use std::alloc::Global;
 
 /// What a caller asks.

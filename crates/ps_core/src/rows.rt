@@ -1,10 +1,10 @@
 ghost use Rattle.std.specs.Prelude.{◌≡◌, ◌++◌, Some, None, IfOk, OnOk, if◌then◌else◌};
-ghost use Rattle.ps_model.specs.Names.{is_topic_name};
+ghost use Rattle.ps_names.specs.Names.{is_topic_name};
 ghost use Rattle.ps_core.specs.Spelling.{CanWrite, CanWriteCommand, command_bytes, command_in, entry_bytes, entry_in, spelled, text_field, topic_in};
 
 use crate::command::{Command, Entry};
 use ps_base::{Octets, OutOfMemory};
-use ps_model::TopicName;
+use ps_names::TopicName;
 use std::alloc::Global;
 
 /// The first byte of every row: the format of entries.

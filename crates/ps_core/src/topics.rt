@@ -14,7 +14,7 @@ use crate::rows::{read_entry, write_entry};
 use crate::world::TopicRow;
 use ps_base::{Duplicate, List, Moment, Octets, OutOfMemory, Refusal, Text};
 use ps_book::{Machine, Verdict};
-use ps_model::TopicName;
+use ps_names::TopicName;
 use std::alloc::Global;
 use std::marker::Model;
 

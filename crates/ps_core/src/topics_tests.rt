@@ -3,7 +3,7 @@ use crate::reply::Reply;
 use crate::rows::{read_entry, write_entry};
 use crate::topics::Topics;
 use ps_book::{Machine, Verdict};
-use ps_model::TopicName;
+use ps_names::TopicName;
 use std::alloc::Global;
 use std::test::Fail;
 

@@ -1,5 +1,5 @@
 use ps_base::List;
-use ps_model::TopicName;
+use ps_names::TopicName;
 
 /// The whole state of the service.
 #[derive(Drop)]

@@ -5,7 +5,7 @@ use Rattle.serde_json.specs.Find.{as_object, get_member}
 use Rattle.ps_base.specs.declared.reason.Reason.TheVariants.{Name}
 use Rattle.ps_base.specs.declared.refusal.Refusal.{Refusal}
 use Rattle.ps_base.specs.declared.refusal.Refusal.TheVariants.{InvalidArgument}
-use Rattle.ps_model.specs.Names.{is_topic_name}
+use Rattle.ps_names.specs.Names.{is_topic_name}
 use Rattle.ps_core.specs.declared.command.Command.TheVariants.{CreateTopic}
 use Rattle.ps_json.specs.Fields.{first_filled}
 use Rattle.ps_json.specs.Body.{create_topic, name_fault, unless}

@@ -7,7 +7,7 @@ use Rattle.serde_json.specs.Find.{as_object, get_member}
 use Rattle.ps_base.specs.declared.reason.Reason.TheVariants.{Body, Name, Shape}
 use Rattle.ps_base.specs.declared.refusal.Refusal.{Refusal}
 use Rattle.ps_base.specs.declared.refusal.Refusal.TheVariants.{InvalidArgument, Unimplemented}
-use Rattle.ps_model.specs.Names.{is_topic_name}
+use Rattle.ps_names.specs.Names.{is_topic_name}
 use Rattle.ps_core.specs.declared.command.Command.{Command}
 use Rattle.ps_core.specs.declared.command.Command.TheVariants.{CreateTopic}
 use Rattle.ps_json.specs.Fields.{first_filled}

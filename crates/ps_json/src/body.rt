@@ -6,7 +6,7 @@ ghost use Rattle.ps_json.specs.Body as spec;
 use crate::fields::{field, first_filled};
 use ps_base::{OutOfMemory, Reason, Refusal, Text};
 use ps_core::Command;
-use ps_model::TopicName;
+use ps_names::TopicName;
 use serde_json::Value;
 use std::alloc::Global;
 

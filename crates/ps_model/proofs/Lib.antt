@@ -1,5 +1,3 @@
-pub mod PartLemmas
 pub mod SameLemmas
-pub mod NameLemmas
 pub mod InTurn
 pub mod EmptyPull

@@ -10,7 +10,7 @@ use Rattle.ps_model.specs.declared.world.TopicRow.{TopicRow}
 use Rattle.ps_model.specs.declared.world.SubRow.{SubRow}
 use Rattle.ps_model.specs.declared.world.MessageRow.{MessageRow}
 use Rattle.ps_model.specs.declared.world.MarkRow.{MarkRow}
-use Rattle.ps_model.specs.Names.{project_part, id_part}
+use Rattle.ps_names.specs.Names.{project_part, id_part}
 use Rattle.ps_model.specs.Filters.{meets}
 use Rattle.ps_model.specs.Timestamps.{timestamp}
 use Rattle.ps_model.specs.Seeking.{fresh}

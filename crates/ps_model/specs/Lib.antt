@@ -1,4 +1,3 @@
-pub mod Names
 pub mod Families
 pub mod Slots
 pub mod Lists

@@ -14,7 +14,7 @@ use Rattle.ps_model.specs.declared.world.SubRow.{SubRow}
 use Rattle.ps_model.specs.declared.world.SnapRow.{SnapRow}
 use Rattle.ps_model.specs.Showing.{topic_shown, sub_shown, snap_shown}
 use Rattle.ps_model.specs.Worlds.{topic_named}
-use Rattle.ps_model.specs.Names.{project_part}
+use Rattle.ps_names.specs.Names.{project_part}
 use Rattle.ps_model.specs.Outcomes.{Outcome, Shows, refuses}
 
 module _ {A : Type 0} (name : A → List ℕ) where

@@ -1,5 +1,5 @@
-use crate::names::TopicName;
 use ps_base::{Duplicate, Labels, OutOfMemory, Text};
+use ps_names::TopicName;
 use std::alloc::Global;
 
 /// The settings of a topic.

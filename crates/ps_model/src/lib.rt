@@ -4,11 +4,9 @@
 mod command;
 mod config;
 mod examples;
-mod grammar;
 mod hold;
 mod laws;
 mod mark;
-mod names;
 mod reply;
 mod stat;
 mod world;
@@ -26,11 +24,10 @@ pub use examples::{
     snapshot_examples, snapshot_seek_examples, standing_examples, subscription_examples,
     time_seek_examples, timestamp_examples, topic_examples,
 };
-pub use grammar::parts_of;
 pub use hold::{Hold, Holds};
 pub use laws::{law_5, law_in_turn, law_starts_sound};
 pub use mark::{DeadLetter, DoneCause, GoneCause, Handed, Item, Mark, Slot, Ticket};
-pub use names::{ProjectName, SnapName, SubName, TopicName};
+pub use ps_names::{ProjectName, SnapName, SubName, TopicName};
 pub use reply::{PageItems, ReceivedMessage, Reply, SnapShown, SubShown, TopicShown};
 pub use stat::Stat;
 pub use world::{MarkRow, MessageRow, SnapRow, SubRow, TopicRow, World};

@@ -1,8 +1,8 @@
 use crate::config::{SubConfig, TopicConfig};
 use crate::mark::Mark;
-use crate::names::{SnapName, SubName, TopicName};
 use ps_base::{Labels, List};
 use ps_message::Message;
+use ps_names::{SnapName, SubName, TopicName};
 
 /// The whole state of the service.
 #[derive(Drop)]

@@ -2,7 +2,7 @@
 use Rattle.std.specs.Prelude.{ℕ, List, [], ◌∷◌, drop, Bool, false, ◌&&◌, not, ◌==◌, nat_eq, Option, Some, None, if◌then◌else◌, codes}
 use Rattle.std.specs.List.{list_all, starts_with}
 use Rattle.std.specs.Str.{bytes_eq}
-use Rattle.ps_model.specs.Names.{parts_of}
+use Rattle.ps_names.specs.Names.{parts_of}
 
 -- neither `%` nor `?`
 abbrev pub is_plain_byte : ℕ → Bool

@@ -4,7 +4,7 @@ ghost use Rattle.std.specs.List.{list_all};
 ghost use Rattle.pubsub.specs.Route as spec;
 
 use ps_base::OutOfMemory;
-use ps_model::parts_of;
+use ps_names::parts_of;
 use std::alloc::Global;
 
 /// The name of the topic that a call of this verb and path creates. None where they name no method.

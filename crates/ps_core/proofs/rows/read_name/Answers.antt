@@ -1,7 +1,7 @@
 use Rattle.std.proofs.Common.{Some, None, sym}
 use Rattle.std.proofs.lemmas.Bool.{cond-false, false_from_ne_true}
-use Rattle.ps_model.specs.Names.{is_topic_name}
-use Rattle.ps_model.proofs.NameLemmas.{topic_name-utf8}
+use Rattle.ps_names.specs.Names.{is_topic_name}
+use Rattle.ps_names.proofs.NameLemmas.{topic_name-utf8}
 use Rattle.ps_core.proofs.rows.read_name.Goals as goal
 
 pub returns-in-Err : goal.returns-in-Err

@@ -1,5 +1,5 @@
 use Rattle.std.proofs.Common.{◌≡◌, ◌≤◌, List, ℕ, length, arith, ap}
-use Rattle.ps_model.proofs.NameLemmas.{topic_name-short}
+use Rattle.ps_names.proofs.NameLemmas.{topic_name-short}
 use Rattle.ps_core.proofs.rows.write_name.Goals as goal
 
 pub overflow_cast-text : goal.overflow_cast-text

@@ -7,8 +7,8 @@ use Rattle.std.proofs.lemmas.Bool.{and_parts, and_from, eqb-true, ltb-true, leb-
 use Rattle.std.proofs.lemmas.Bool.Decides.{nat_tests}
 use Rattle.std.proofs.lemmas.Str.{IsUtf8-from_ascii}
 use Rattle.std.proofs.lemmas.Str.Ascii.{IsAscii-nil, IsAscii-cons}
-use Rattle.ps_model.specs.Names.{is_project_byte, is_id_byte, starts_with_byte, is_project, is_id, parts_of, is_parts_of, is_topic_name}
-use Rattle.ps_model.proofs.SameLemmas.{exact-bytes}
+use Rattle.ps_names.specs.Names.{is_project_byte, is_id_byte, starts_with_byte, is_project, is_id, parts_of, is_parts_of, is_topic_name}
+use Rattle.std.proofs.lemmas.Slice.Eq.{bytes_eq-Decides}
 
 abbrev pub is_slash : ℕ → Bool
 is_slash b = b == 47
@@ -66,8 +66,8 @@ are_parts kind short plain (projects ∷ project ∷ named ∷ id ∷ []) h =
     let id_parts = and_parts (starts_with_byte is_ascii_alphabetic id && nat_le 3 (length id) && nat_le (length id) 255 && list_all is_id_byte id) (not (starts_with nat_eq id (codes "goog"))) three.1 in
     let id_bytes = and_parts (starts_with_byte is_ascii_alphabetic id && nat_le 3 (length id) && nat_le (length id) 255) (list_all is_id_byte id) id_parts.0 in
     let id_short = and_parts (starts_with_byte is_ascii_alphabetic id && nat_le 3 (length id)) (nat_le (length id) 255) id_bytes.0 in
-    let first : projects ≡ codes "projects" = exact-bytes.one projects (codes "projects") one.0 in
-    let third : named ≡ kind = exact-bytes.one named kind two.1 in
+    let first : projects ≡ codes "projects" = (bytes_eq-Decides projects (codes "projects")).0 one.0 in
+    let third : named ≡ kind = (bytes_eq-Decides named kind).0 two.1 in
     record {
       few = omega (arith, ap length first, ap length third, short, leb-true (length project) 63 project_short.1, leb-true (length id) 255 id_short.1);
       ascii =

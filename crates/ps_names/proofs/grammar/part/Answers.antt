@@ -1,8 +1,8 @@
 use Rattle.std.proofs.Common.{lit<, ap, ◌∙◌, unwrap_or, List, [], ℕ, Bor}
 use Rattle.std.proofs.lemmas.Iterator.Consumers.{nth_from_yields_List}
 use Rattle.std.proofs.lemmas.Iterator.Splits.{YieldsList-from_str_split}
-use Rattle.ps_model.proofs.PartLemmas.{text-or}
-use Rattle.ps_model.proofs.grammar.part.Goals as goal
+use Rattle.ps_names.proofs.PartLemmas.{text-or}
+use Rattle.ps_names.proofs.grammar.part.Goals as goal
 
 pub returns : goal.returns
 returns c =

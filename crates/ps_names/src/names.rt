@@ -1,6 +1,6 @@
 ghost use Rattle.std.specs.Prelude.{◌≡◌, true, IfOk, Some, None, if◌then◌else◌};
 ghost use Rattle.std.specs.Str.{bytes_eq};
-ghost use Rattle.ps_model.specs.Names.{is_name_of, is_topic_name, is_sub_name, is_snap_name, is_project, project_part, id_part};
+ghost use Rattle.ps_names.specs.Names.{is_name_of, is_topic_name, is_sub_name, is_snap_name, is_project, project_part, id_part};
 
 use crate::grammar::{is_parts_of, is_project, part, parts_of};
 use ps_base::{Duplicate, OutOfMemory, Text};
@@ -23,7 +23,7 @@ pub struct TopicName {
 
 impl Model for TopicName {
     ghost use Rattle.std.specs.Prelude.{List, ℕ, ◌≡◌, true};
-    ghost use Rattle.ps_model.specs.Names.{is_topic_name};
+    ghost use Rattle.ps_names.specs.Names.{is_topic_name};
 
     ghost Value = { List ℕ };
 
@@ -86,7 +86,7 @@ pub struct SubName {
 
 impl Model for SubName {
     ghost use Rattle.std.specs.Prelude.{List, ℕ, ◌≡◌, true};
-    ghost use Rattle.ps_model.specs.Names.{is_sub_name};
+    ghost use Rattle.ps_names.specs.Names.{is_sub_name};
 
     ghost Value = { List ℕ };
 
@@ -149,7 +149,7 @@ pub struct SnapName {
 
 impl Model for SnapName {
     ghost use Rattle.std.specs.Prelude.{List, ℕ, ◌≡◌, true};
-    ghost use Rattle.ps_model.specs.Names.{is_snap_name};
+    ghost use Rattle.ps_names.specs.Names.{is_snap_name};
 
     ghost Value = { List ℕ };
 
@@ -212,7 +212,7 @@ pub struct ProjectName {
 
 impl Model for ProjectName {
     ghost use Rattle.std.specs.Prelude.{List, ℕ, ◌≡◌, true};
-    ghost use Rattle.ps_model.specs.Names.{is_project};
+    ghost use Rattle.ps_names.specs.Names.{is_project};
 
     ghost Value = { List ℕ };
 

@@ -1,7 +1,7 @@
 use Rattle.std.proofs.Common.{◌≡◌, length, map, sym, arith, List, ℕ, Bor}
 use Rattle.std.proofs.lemmas.List.{length-map}
-use Rattle.ps_model.proofs.PartLemmas.{parts-few, parts-many}
-use Rattle.ps_model.proofs.grammar.is_parts_of.Goals as goal
+use Rattle.ps_names.proofs.PartLemmas.{parts-few, parts-many}
+use Rattle.ps_names.proofs.grammar.is_parts_of.Goals as goal
 
 pub returns-in_default : goal.returns-in_default
 returns-in_default c =
