@@ -1,5 +1,5 @@
 -- The bytes of each kind of field: numbers with the high byte first, a flag as one byte, and bytes behind their count.
-use Rattle.std.specs.Prelude.{ℕ, Bool, true, false, List, [], ◌∷◌, ◌++◌, length}
+use Rattle.std.specs.Prelude.{ℕ, ◌<◌, ◌^◌, Bool, true, false, List, [], ◌∷◌, ◌++◌, length, slice_index}
 use Rattle.std.specs.Int.{w32, w64, to_be_bytes}
 
 abbrev pub u8_field : ℕ → List ℕ
@@ -20,3 +20,7 @@ flag_field true = 1 ∷ []
 -- how many there are, and the bytes
 abbrev pub bytes_field : List ℕ → List ℕ
 bytes_field bytes = u32_field (length bytes) ++ bytes
+
+-- each is a byte
+abbrev pub IsBytes : List ℕ → Type 0
+IsBytes bytes = (place : ℕ) → slice_index bytes place < 2 ^ 8

@@ -7,7 +7,7 @@ mod reader;
 mod writer;
 
 pub use fault::FieldError;
-pub use laws::written_is_read;
+pub use laws::{only_what_is_written_is_read, written_is_read};
 pub use reader::FieldReader;
 pub use writer::FieldWriter;
 
