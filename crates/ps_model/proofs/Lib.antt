@@ -1,3 +1,6 @@
 pub mod SameLemmas
 pub mod InTurn
 pub mod EmptyPull
+pub mod FormSteps
+pub mod FormLemmas
+pub mod FormProofs

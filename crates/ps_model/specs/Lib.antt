@@ -71,3 +71,5 @@ pub mod TimestampExamples
 pub mod StandingExamples
 pub mod DeadStandingExamples
 pub mod RemadeExamples
+pub mod Forms
+pub mod FormLaws

@@ -4,6 +4,7 @@
 mod command;
 mod config;
 mod examples;
+mod forms;
 mod hold;
 mod laws;
 mod mark;
@@ -24,13 +25,16 @@ pub use examples::{
     snapshot_examples, snapshot_seek_examples, standing_examples, subscription_examples,
     time_seek_examples, timestamp_examples, topic_examples,
 };
+pub use forms::Form;
 pub use hold::{Hold, Holds};
-pub use laws::{law_5, law_in_turn, law_starts_sound};
+pub use laws::{law_5, law_forms, law_in_turn, law_starts_sound};
 pub use mark::{DeadLetter, DoneCause, GoneCause, Handed, Item, Mark, Slot, Ticket};
 pub use ps_names::{ProjectName, SnapName, SubName, TopicName};
 pub use reply::{PageItems, ReceivedMessage, Reply, SnapShown, SubShown, TopicShown};
 pub use stat::Stat;
 pub use world::{MarkRow, MessageRow, SnapRow, SubRow, TopicRow, World};
 
+#[cfg(test)]
+mod forms_tests;
 #[cfg(test)]
 mod tests;
