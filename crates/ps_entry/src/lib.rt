@@ -1,0 +1,13 @@
+//! The bytes of a recorded entry: what was written is read again, and nothing else is read.
+#![tactic(auto)]
+
+mod laws;
+mod reading;
+mod writing;
+
+pub use laws::law_entries;
+pub use reading::read;
+pub use writing::{is_recorded, write};
+
+#[cfg(test)]
+mod tests;
