@@ -1,0 +1,9 @@
+pub mod OrderLemmas
+pub mod ChoiceLemmas
+pub mod MarkLemmas
+pub mod OnceLemmas
+pub mod SteadyLemmas
+pub mod CountLemmas
+pub mod ExpungeLemmas
+pub mod DueLemmas
+pub mod LendLemmas

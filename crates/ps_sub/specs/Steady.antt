@@ -1,0 +1,25 @@
+-- What holds of every subscription, also of a spent one.
+use Rattle.std.specs.Prelude.{◌≡◌, ◌<◌, false, List}
+use Rattle.std.specs.List.{list_any}
+use Rattle.ps_model.specs.declared.config.SubConfig.{SubConfig}
+use Rattle.ps_model.specs.declared.mark.Slot.{Slot}
+use Rattle.ps_model.specs.Checks.{has_bad_delays}
+use Rattle.ps_model.specs.Slots.{is_gone}
+use Rattle.ps_model.specs.Sound.{Ordered}
+
+-- its retry delays are within their limits
+abbrev pub HasShortDelays : SubConfig → Type 0
+HasShortDelays config = has_bad_delays config.retry ≡ false
+
+-- numbers ascend
+abbrev pub IsAscending : List Slot → Type 0
+IsAscending = Ordered (λ (a b : Slot). a.item.number < b.item.number)
+
+-- no message is gone
+abbrev pub IsLive : List Slot → Type 0
+IsLive slots = list_any (λ (s : Slot). is_gone s.mark) slots ≡ false
+
+pub record IsSteady (slots : List Slot) (config : SubConfig) : Type 0 where
+  pub ascending : IsAscending slots
+  pub live : IsLive slots
+  pub delays : HasShortDelays config

@@ -1,0 +1,190 @@
+ghost use Rattle.std.specs.Prelude.{◌≡◌, ◌+◌, ◌-◌, ◌*◌, ◌^◌, ◌≤◌, min, map, false, IfOk};
+ghost use Rattle.std.specs.List.{list_any};
+ghost use Rattle.ps_base.specs.Moments.{last_moment};
+ghost use Rattle.ps_model.specs.Checks.{has_bad_delays};
+ghost use Rattle.ps_model.specs.Failing.{one_more, retry_at, is_dead, failed, fallen, mark_after_failing, dead_letter, dead_letters, is_due};
+ghost use Rattle.ps_model.specs.Slots.{any_earlier};
+ghost use Rattle.ps_sub.specs.Steady.{HasShortDelays};
+
+use crate::standing::{has_order, is_due, is_earlier};
+use ps_base::OutOfMemory;
+use ps_model::{DeadLetter, DeadLetterPolicy, DoneCause, Mark, RetryPolicy, Slot, SubConfig};
+use std::alloc::Global;
+
+/// Whether a lease is over.
+pub fn any_due(now: u64, slots: &[Slot]) -> bool
+    ensures { result ≡ list_any (is_due now) slots.now }
+{
+    slots.iter().any(|slot| is_due(now, slot))
+}
+
+fn one_more(failures: u32) -> u32
+    ensures { result ≡ one_more failures }
+{
+    failures.saturating_add(1)
+}
+
+/// The delay after so many failures, in milliseconds: the least, doubled with each failure after the first,
+/// up to the greatest.
+fn delay(retry: RetryPolicy, failures: u32) -> u64
+    requires least { retry.least ≤ 600000 }
+    requires most { retry.most ≤ 600000 }
+    ensures value { result ≡ min retry.most (retry.least * 2 ^ (failures - 1)) }
+    ensures short { result ≤ 600000 }
+{
+    let doublings = failures.saturating_sub(1);
+    if retry.least == 0 {
+        0
+    } else if doublings >= 20 {
+        retry.most
+    } else {
+        retry.most.min(retry.least << doublings)
+    }
+}
+
+fn retry_at(retry: Option<RetryPolicy>, now: u64, failures: u32) -> u64
+    requires delays { has_bad_delays retry ≡ false }
+    requires moment { now ≤ last_moment }
+    ensures { result ≡ retry_at retry now failures }
+{
+    match retry {
+        None => 0,
+        Some(policy) => now + delay(policy, failures),
+    }
+}
+
+fn is_dead(policy: &Option<DeadLetterPolicy>, forward: bool, failures: u32) -> bool
+    ensures { result ≡ is_dead policy.now forward failures }
+{
+    match policy {
+        None => false,
+        Some(policy) => forward && policy.attempts <= failures,
+    }
+}
+
+fn failed(now: u64, forward: bool, config: &SubConfig, mark: Mark) -> Mark
+    requires delays { HasShortDelays config.now }
+    requires moment { now ≤ last_moment }
+    ensures { result ≡ failed now forward config.now mark }
+{
+    match mark {
+        Mark::Leased {
+            failures,
+            lease,
+            ..
+        } => {
+            let failures = one_more(failures);
+            if is_dead(&config.dead_letter, forward, failures) {
+                Mark::Done {
+                    cause: DoneCause::Dead,
+                }
+            } else {
+                Mark::Backlog {
+                    failures,
+                    until: retry_at(config.retry, now, failures),
+                    last: Some(lease),
+                }
+            }
+        }
+        other => other,
+    }
+}
+
+fn fallen(mark: Mark) -> Mark
+    ensures { result ≡ fallen mark }
+{
+    match mark {
+        Mark::Leased {
+            failures,
+            lease,
+            ..
+        } => Mark::Backlog {
+            failures,
+            until: 0,
+            last: Some(lease),
+        },
+        Mark::Ahead { failures } => Mark::Backlog {
+            failures,
+            until: 0,
+            last: None,
+        },
+        other => other,
+    }
+}
+
+/// Whether an earlier message of its key fails.
+#[tactic(auto, using(crate::proofs::OrderLemmas::any_earlier_none))]
+fn fails_before(now: u64, ordering: bool, slots: &[Slot], slot: &Slot) -> bool
+    ensures { result ≡ any_earlier ordering (is_due now) slots.now slot.now }
+{
+    has_order(ordering, slot)
+        && slots
+            .iter()
+            .any(|e| is_earlier(ordering, e, slot) && is_due(now, e))
+}
+
+fn mark_after(now: u64, forward: bool, config: &SubConfig, slots: &[Slot], slot: &Slot) -> Mark
+    requires delays { HasShortDelays config.now }
+    requires moment { now ≤ last_moment }
+    ensures { result ≡ mark_after_failing (is_due now) now forward config.now slots.now slot.now }
+{
+    if is_due(now, slot) {
+        failed(now, forward, config, slot.mark)
+    } else if fails_before(now, config.ordering, slots, slot) {
+        fallen(slot.mark)
+    } else {
+        slot.mark
+    }
+}
+
+/// The marks after the leases that are over failed together.
+pub fn marks_after(
+    alloc: Global,
+    now: u64,
+    forward: bool,
+    config: &SubConfig,
+    slots: &[Slot],
+) -> Result<Vec<Mark>, OutOfMemory>
+    requires delays { HasShortDelays config.now }
+    requires moment { now ≤ last_moment }
+    ensures { IfOk result (λ marks. marks.items ≡ map (mark_after_failing (is_due now) now forward config.now slots.now) slots.now) }
+{
+    let marks = slots
+        .iter()
+        .map(|slot| mark_after(now, forward, config, slots, slot))
+        .collect(alloc)?;
+    Ok(marks)
+}
+
+fn dead_letter(now: u64, forward: bool, config: &SubConfig, slot: &Slot) -> Option<DeadLetter>
+    ensures { result ≡ dead_letter (is_due now) forward config.now slot.now.mark slot.now }
+{
+    match slot.mark {
+        Mark::Leased { failures, .. } => {
+            let failures = one_more(failures);
+            let is_dead = is_due(now, slot) && is_dead(&config.dead_letter, forward, failures);
+            is_dead.then_some(DeadLetter {
+                number: slot.item.number,
+                failures,
+            })
+        }
+        _ => None,
+    }
+}
+
+/// The messages whose lease is over and that failed as often as the dead-letter policy says.
+pub fn dead_letters(
+    alloc: Global,
+    now: u64,
+    forward: bool,
+    config: &SubConfig,
+    slots: &[Slot],
+) -> Result<Vec<DeadLetter>, OutOfMemory>
+    ensures { IfOk result (λ dead. dead.items ≡ dead_letters (is_due now) forward config.now slots.now) }
+{
+    let letters = slots
+        .iter()
+        .filter_map(|slot| dead_letter(now, forward, config, slot))
+        .collect(alloc)?;
+    Ok(letters)
+}

@@ -1,0 +1,23 @@
+use ps_base::List;
+use ps_model::Ticket;
+
+/// What an acknowledgement did.
+#[derive(Drop)]
+pub struct AckOutcome {
+    /// Whether a mark changed.
+    pub changed: bool,
+    /// In exactly-once mode the tickets that name no living lease, each once.
+    pub invalid: List<Ticket>,
+    /// In exactly-once mode the tickets of messages before their turn, each once.
+    pub unordered: List<Ticket>,
+}
+
+/// How many messages of a subscription stand where.
+#[derive(Clone, Copy, Debug, PartialEq, Eq)]
+pub struct SubCounts {
+    pub backlog: u64,
+    pub leased: u64,
+    /// In their turn or before it.
+    pub acknowledged: u64,
+    pub dead: u64,
+}
