@@ -1,0 +1,5 @@
+use Rattle.ps_sound.proofs.LawProofs.{settled_after_step}
+use Rattle.ps_sound.proofs.laws.law_settled_after_step.Goals as goal
+
+pub returns : goal.returns
+returns c = settled_after_step
