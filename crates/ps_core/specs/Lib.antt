@@ -6,3 +6,16 @@ pub mod Step
 pub mod Spelling
 pub mod History
 pub mod Laws
+pub mod Built
+pub mod State
+pub mod Steady
+pub mod Effects
+pub mod Keeping
+pub mod Waking
+pub mod Calls
+pub mod Entering
+pub mod Acceptance
+pub mod Applying
+pub mod Counts
+pub mod Carrying
+pub mod Delivering

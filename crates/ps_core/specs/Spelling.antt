@@ -1,50 +1,51 @@
--- The bytes of an entry: the format's byte 1, the moment, a tag and the fields of its command.
-use Rattle.std.specs.Prelude.{◌≡◌, ◌≤◌, ℕ, List, [], ◌∷◌, ◌++◌, length, take, drop, true, ◌&&◌, nat_le, nat_eq, Option, Some, None, option_map, if◌then◌else◌}
-use Rattle.std.specs.Int.{from_be_bytes, to_be_bytes, w32, w64}
-use Rattle.std.specs.Str.{bytes_eq}
+-- The rows of entries: those of the whole service, of which this machine knows two commands.
+use Rattle.std.specs.Prelude.{◌≡◌, ◌≤◌, ℕ, List, [], length, Bool, true, ◌&&◌, nat_eq, Option, Some, None, option_map, option_and_then, if◌then◌else◌}
+use Rattle.std.specs.Option.{is_none}
 use Rattle.ps_base.specs.Moments.{last_moment}
 use Rattle.ps_names.specs.Names.{is_topic_name}
+use Rattle.ps_model.specs.declared.config.TopicConfig.{TopicConfig}
+use Rattle.ps_model.specs.declared.command.Command.{Command as WideCommand}
+use Rattle.ps_model.specs.declared.command.Command.TheVariants.{Tick as WideTick, CreateTopic as WideCreateTopic}
+use Rattle.ps_model.specs.declared.command.Entry.{Entry as WideEntry}
+use Rattle.ps_entry.specs.Entries.{entry_form, entry_in}
 use Rattle.ps_core.specs.declared.command.Command.{Command}
 use Rattle.ps_core.specs.declared.command.Command.TheVariants.{Tick, CreateTopic}
 use Rattle.ps_core.specs.declared.command.Entry.{Entry}
 
--- a text is its length in four bytes, the greatest first, and its bytes
-abbrev pub text_field : List ℕ → List ℕ
-text_field text = to_be_bytes w32 (length text) ++ text
-
 -- no labels, and no retention
-abbrev pub plain_config : List ℕ
-plain_config = 0 ∷ 0 ∷ 0 ∷ 0 ∷ 0 ∷ []
+abbrev pub plain_config : TopicConfig
+plain_config = record { labels = []; retention = None }
 
--- the tag of a command, and its fields
-abbrev pub command_bytes : Command → List ℕ
-command_bytes Tick = 1 ∷ []
-command_bytes (CreateTopic topic) = 2 ∷ (text_field topic ++ plain_config)
+-- the same command among those of the whole service
+abbrev pub wide_command : Command → WideCommand
+wide_command Tick = WideTick
+wide_command (CreateTopic topic) = WideCreateTopic topic plain_config
+
+abbrev pub wide : Entry → WideEntry
+wide e = record { now = e.now; command = wide_command e.command }
+
+abbrev pub is_plain : TopicConfig → Bool
+is_plain config = nat_eq (length config.labels) 0 && is_none config.retention
+
+-- the creation with a plain configuration
+abbrev pub narrow_creation : List ℕ → TopicConfig → Option Command
+narrow_creation topic config = if is_plain config then Some (CreateTopic topic) else None
+
+-- the command, where this machine knows it
+abbrev pub narrow_command : WideCommand → Option Command
+narrow_command WideTick = Some Tick
+narrow_command (WideCreateTopic topic config) = narrow_creation topic config
+narrow_command _ = None
+
+abbrev pub narrow : WideEntry → Option Entry
+narrow e = option_map (λ c. record { now = e.now; command = c }) (narrow_command e.command)
 
 abbrev pub entry_bytes : Entry → List ℕ
-entry_bytes e = 1 ∷ (to_be_bytes w64 e.now ++ command_bytes e.command)
+entry_bytes e = entry_form (wide e)
 
--- the length that the first four bytes tell
-abbrev pub told_length : List ℕ → ℕ
-told_length fields = from_be_bytes w32 (take 4 fields)
-
--- the topic of a creation, where the fields are a name and a plain configuration
-abbrev pub topic_in : List ℕ → Option Command
-topic_in fields =
-    let text = take (told_length fields) (drop 4 fields) in
-    if nat_le 4 (length fields) && bytes_eq (drop (told_length fields) (drop 4 fields)) plain_config && is_topic_name text then Some (CreateTopic text) else None
-
-abbrev pub command_in : List ℕ → Option Command
-command_in [] = None
-command_in (tag ∷ fields) = if nat_eq tag 1 then (if nat_eq (length fields) 0 then Some Tick else None) else (if nat_eq tag 2 then topic_in fields else None)
-
-abbrev pub entry_in : List ℕ → Option Entry
-entry_in bytes = if nat_le 8 (length bytes) then option_map (λ c. record { now = from_be_bytes w64 (take 8 bytes); command = c }) (command_in (drop 8 bytes)) else None
-
--- the entry that a row spells, where it is one
+-- the entry that a row spells, where it is one of this machine's
 abbrev pub spelled : List ℕ → Option Entry
-spelled [] = None
-spelled (format ∷ bytes) = if nat_eq format 1 then entry_in bytes else None
+spelled row = option_and_then narrow (entry_in row)
 
 abbrev pub CanWriteCommand : Command → Type 0
 CanWriteCommand Tick = Unit {0}

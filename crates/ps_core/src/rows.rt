@@ -1,113 +1,96 @@
-ghost use Rattle.std.specs.Prelude.{◌≡◌, ◌++◌, Some, None, IfOk, OnOk, if◌then◌else◌};
-ghost use Rattle.ps_names.specs.Names.{is_topic_name};
-ghost use Rattle.ps_core.specs.Spelling.{CanWrite, CanWriteCommand, command_bytes, command_in, entry_bytes, entry_in, spelled, text_field, topic_in};
+ghost use Rattle.std.specs.Prelude.{◌≡◌, Some, IfOk};
+ghost use Rattle.ps_core.specs.Spelling.{CanWrite, entry_bytes, is_plain, narrow, narrow_command, narrow_creation, plain_config, spelled, wide, wide_command};
 
 use crate::command::{Command, Entry};
-use ps_base::{Octets, OutOfMemory};
+use ps_base::{Duplicate, Labels, Octets, OutOfMemory};
+use ps_model::{Command as WideCommand, Entry as WideEntry, TopicConfig};
 use ps_names::TopicName;
 use std::alloc::Global;
 
-/// The first byte of every row: the format of entries.
-const FORMAT: u8 = 1;
-
-/// The bytes behind a topic's name: no labels, and no retention.
-const PLAIN_CONFIG: [u8; 5] = [0; 5];
-
-/// The row of an entry: the format, the moment in eight bytes, a tag and the fields of its command.
+/// The row of an entry, as the whole service writes it.
 pub fn write_entry(alloc: Global, entry: &Entry) -> Result<Octets, OutOfMemory>
     requires { CanWrite entry.now }
     ensures bytes { IfOk result (λ row. row ≡ entry_bytes entry.entry.now) }
     ensures read { IfOk result (λ row. spelled row ≡ Some entry.entry.now) }
 {
-    let mut row = Vec::from_slice(alloc, &[FORMAT])?;
-    row.extend_from_slice(&entry.now.to_be_bytes())?;
-    write_command(&mut row, &entry.command)?;
-    Ok(Octets::from_vec(row))
+    let wide = widened(alloc, entry)?;
+    ps_entry::write(alloc, &wide)
 }
 
-fn write_command(row: &mut Vec<u8>, command: &Command) -> Result<(), OutOfMemory>
-    requires { CanWriteCommand command.now }
-    ensures { OnOk result (row.new.items ≡ row.old.items ++ command_bytes command.now) }
-{
-    match command {
-        Command::Tick => row.push(1)?,
-        Command::CreateTopic { topic } => {
-            row.push(2)?;
-            write_name(row, topic)?;
-            row.extend_from_slice(&PLAIN_CONFIG)?;
-        }
-    }
-    Ok(())
-}
-
-/// The length of a name in four bytes, the greatest first, and its bytes.
-fn write_name(row: &mut Vec<u8>, name: &TopicName) -> Result<(), OutOfMemory>
-    ensures { OnOk result (row.new.items ≡ row.old.items ++ text_field name.now) }
-{
-    let text = name.text();
-    row.extend_from_slice(&(text.len() as u32).to_be_bytes())?;
-    row.extend_from_slice(text.as_bytes())?;
-    Ok(())
-}
-
-/// The entry that a row spells. None exactly where it spells none.
+/// The entry that a row spells. None exactly where it spells none of this machine's.
 pub fn read_entry(alloc: Global, body: &[u8]) -> Result<Option<Entry>, OutOfMemory>
     ensures { IfOk result (λ entry. entry ≡ spelled body.now) }
 {
-    match body {
-        [FORMAT, bytes @ ..] => read_moment(alloc, bytes),
-        _ => Ok(None),
-    }
-}
-
-/// The entry whose moment and command these are.
-fn read_moment(alloc: Global, bytes: &[u8]) -> Result<Option<Entry>, OutOfMemory>
-    ensures { IfOk result (λ entry. entry ≡ entry_in bytes.now) }
-{
-    let Some((moment, command)) = bytes.split_first_chunk::<8>() else {
-        return Ok(None);
-    };
-    let now = u64::from_be_bytes(*moment);
-    match read_command(alloc, command)? {
-        Some(command) => Ok(Some(Entry { now, command })),
+    match ps_entry::read(alloc, body)? {
+        Some(entry) => Ok(narrowed(entry)),
         None => Ok(None),
     }
 }
 
-fn read_command(alloc: Global, bytes: &[u8]) -> Result<Option<Command>, OutOfMemory>
-    ensures { IfOk result (λ command. command ≡ command_in bytes.now) }
+/// The same entry among those of the whole service.
+fn widened(alloc: Global, entry: &Entry) -> Result<WideEntry, OutOfMemory>
+    ensures { IfOk result (λ made. made ≡ wide entry.entry.now) }
 {
-    match bytes {
-        [1] => Ok(Some(Command::Tick)),
-        [2, fields @ ..] => read_creation(alloc, fields),
-        _ => Ok(None),
+    Ok(WideEntry {
+        now: entry.now,
+        command: widened_command(alloc, &entry.command)?,
+    })
+}
+
+fn widened_command(alloc: Global, command: &Command) -> Result<WideCommand, OutOfMemory>
+    ensures { IfOk result (λ made. made ≡ wide_command command.now) }
+{
+    match command {
+        Command::Tick => Ok(WideCommand::Tick),
+        Command::CreateTopic { topic } => Ok(WideCommand::CreateTopic {
+            topic: topic.copy(alloc)?,
+            config: plain_config(alloc),
+        }),
     }
 }
 
-fn read_creation(alloc: Global, fields: &[u8]) -> Result<Option<Command>, OutOfMemory>
-    ensures { IfOk result (λ command. command ≡ topic_in fields.now) }
+/// No labels, and no retention.
+fn plain_config(alloc: Global) -> TopicConfig
+    ensures { result ≡ plain_config }
 {
-    let Some((length, rest)) = fields.split_first_chunk::<4>() else {
-        return Ok(None);
-    };
-    let Some((text, config)) = rest.split_at_checked(u32::from_be_bytes(*length) as usize) else {
-        return Ok(None);
-    };
-    if config != PLAIN_CONFIG.as_slice() {
-        return Ok(None);
-    }
-    match read_name(alloc, text)? {
-        Some(topic) => Ok(Some(Command::CreateTopic { topic })),
-        None => Ok(None),
+    TopicConfig {
+        labels: Labels::new(alloc),
+        retention: None,
     }
 }
 
-/// The name that these bytes are. None exactly where they are outside the grammar.
-fn read_name(alloc: Global, bytes: &[u8]) -> Result<Option<TopicName>, OutOfMemory>
-    ensures { IfOk result (λ name. name ≡ (if is_topic_name bytes.now then Some bytes.now else None)) }
+/// The entry of this machine that it is. None where its command is another.
+fn narrowed(entry: WideEntry) -> Option<Entry>
+    ensures { result ≡ narrow entry }
 {
-    match str::from_utf8(bytes) {
-        Ok(text) => TopicName::read(alloc, text),
-        Err(_) => Ok(None),
+    let WideEntry { now, command } = entry;
+    let command = narrowed_command(command)?;
+    Some(Entry { now, command })
+}
+
+fn narrowed_command(command: WideCommand) -> Option<Command>
+    ensures { result ≡ narrow_command command }
+{
+    match command {
+        WideCommand::Tick => Some(Command::Tick),
+        WideCommand::CreateTopic { topic, config } => narrowed_creation(topic, &config),
+        _ => None,
     }
+}
+
+/// The creation with a plain configuration. None where there are settings.
+fn narrowed_creation(topic: TopicName, config: &TopicConfig) -> Option<Command>
+    ensures { result ≡ narrow_creation topic config.now }
+{
+    if is_plain(config) {
+        Some(Command::CreateTopic { topic })
+    } else {
+        None
+    }
+}
+
+fn is_plain(config: &TopicConfig) -> bool
+    ensures { result ≡ is_plain config.now }
+{
+    config.labels.as_slice().is_empty() && config.retention.is_none()
 }
