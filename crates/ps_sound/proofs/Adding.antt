@@ -54,9 +54,9 @@ record IsNewRow (t next : ℕ) (w : World) (r : MarkRow) : Type 0 where
   gone : IsGoneAt (sub_numbered w r.sub) r.mark
   none_leased : is_leased r.mark ≡ false
 
-each-behind : {A : Type 0} (P : A → Type 0) (xs ys : List A) → AllByRecursion P (xs ++ ys) → AllByRecursion P ys
-each-behind P [] ys h = h
-each-behind P (x ∷ xs) ys h = each-behind P xs ys h.1
+each-rest : {A : Type 0} (P : A → Type 0) (xs ys : List A) → AllByRecursion P (xs ++ ys) → AllByRecursion P ys
+each-rest P [] ys h = h
+each-rest P (x ∷ xs) ys h = each-rest P xs ys h.1
 
 module _ (t count : ℕ) (w : World) (rows : List MessageRow) (h : IsUnderway t count w)
     (ascend : Ordered (λ (a b : MessageRow). a.number < b.number) rows) (publishes : Ordered (λ (a b : MessageRow). a.publish ≤ b.publish) rows)
@@ -89,7 +89,7 @@ module _ (t count : ℕ) (w : World) (rows : List MessageRow) (h : IsUnderway t 
 
   -- a new message is found under its number
   found-new : AllByRecursion (λ (r : MessageRow). message_numbered (w.messages ++ rows) r.number ≡ Some r) rows
-  found-new = each-behind (λ (r : MessageRow). message_numbered (w.messages ++ rows) r.number ≡ Some r) w.messages rows (found-own (λ (r : MessageRow). r.number) (w.messages ++ rows) messages-ascend)
+  found-new = each-rest (λ (r : MessageRow). message_numbered (w.messages ++ rows) r.number ≡ Some r) w.messages rows (found-own (λ (r : MessageRow). r.number) (w.messages ++ rows) messages-ascend)
 
   abbrev entry : SubRow → MessageRow → MarkRow
   entry sub r = record { sub = sub.number; message = r.number; mark = fresh }

@@ -61,10 +61,10 @@ dealt-lasting = record {
   rests = λ t. dealt-is (λ mark. is_ready t mark ≡ false) (λ c. refl) (λ c. refl);
 }
 
-dealt-failing : (fails : Slot → Bool) (t : ℕ) (forward : Bool) (config : SubConfig) (slots : List Slot) (s : Slot) → IsDealt s.mark → IsDealt (mark_after_failing fails t forward config slots s)
+pub dealt-failing : (fails : Slot → Bool) (t : ℕ) (forward : Bool) (config : SubConfig) (slots : List Slot) (s : Slot) → IsDealt s.mark → IsDealt (mark_after_failing fails t forward config slots s)
 dealt-failing fails t forward config slots s e = failing-is IsDealt fails t forward config slots s (dealt-is (λ mark. IsDealt (failed t forward config mark)) (λ c. refl) (λ c. refl) s.mark e) (dealt-is (λ mark. IsDealt (fallen mark)) (λ c. refl) (λ c. refl) s.mark e) e
 
-dealt-acknowledged : (config : SubConfig) (tickets : List Ticket) (slots : List Slot) (s : Slot) → IsDealt s.mark → IsDealt (mark_after_ack config tickets slots s)
+pub dealt-acknowledged : (config : SubConfig) (tickets : List Ticket) (slots : List Slot) (s : Slot) → IsDealt s.mark → IsDealt (mark_after_ack config tickets slots s)
 dealt-acknowledged config tickets slots s e = subst IsDealt (sym (ap (λ b. cond b (if is_early config tickets slots s then if config.exactly_once then s.mark else Ahead (failures_of s.mark) else Done Acknowledged) s.mark) none)) e
   where
     none : is_named config.exactly_once tickets s ≡ false
@@ -72,17 +72,17 @@ dealt-acknowledged config tickets slots s e = subst IsDealt (sym (ap (λ b. cond
         (λ ticket. and_right (nat_eq s.item.number ticket.number) (may_ack config.exactly_once ticket.lease s.mark) (dealt-is (λ mark. may_ack config.exactly_once ticket.lease mark ≡ false) (λ c. refl) (λ c. refl) s.mark e)))
 
 -- whether a command seeks is read off the subscriptions, in either form of the command
-seeks-same : (n : ℕ) (w v : World) (c : Command) → v.subs ≡ w.subs → seeks n v c ≡ seeks n w c
+pub seeks-same : (n : ℕ) (w v : World) (c : Command) → v.subs ≡ w.subs → seeks n v c ≡ seeks n w c
 seeks-same n w v (SeekTime name time) e = ap (λ subs. is_numbered n (find (λ (r : SubRow). bytes_eq r.name name) subs)) e
 seeks-same n w v (SeekSnapshot name snapshot) e = ap (λ subs. is_numbered n (find (λ (r : SubRow). bytes_eq r.name name) subs)) e
 seeks-same n w v _ e = refl
 
-seeks-read : (n : ℕ) (v : World) (c : Command) → seeks n v (as_read c) ≡ seeks n v c
+pub seeks-read : (n : ℕ) (v : World) (c : Command) → seeks n v (as_read c) ≡ seeks n v c
 seeks-read n v (SeekTime name time) = refl
 seeks-read n v (SeekSnapshot name snapshot) = refl
 seeks-read n v _ = refl
 
-settled-subs : (t : ℕ) (w : World) → (settled t w).subs ≡ w.subs
+pub settled-subs : (t : ℕ) (w : World) → (settled t w).subs ≡ w.subs
 settled-subs t w = at (is_full w)
   where
     at : (full : Bool) → (cond full w (settle t w)).subs ≡ w.subs
@@ -147,4 +147,4 @@ pub dealt-not-handed : (w : World) (e : Entry) (id : AckId) → PairIs IsDealt i
 dealt-not-handed w e id p =
     let t = moment w e.now in
     let v = settled t w in
-    (outcome-keeps t v (λ items. list_any (λ (r : ReceivedMessage). same_id r.id id) items ≡ false) refl (never-received IsDealt id.sub id.message t v id dealt-lasting refl refl (dealt-settled id.sub id.message t w p)) (as_read e.command)).1
+    (outcome-keeps t v (λ items. list_any (λ (r : ReceivedMessage). same_id r.id id) items ≡ false) refl (as_read e.command) (λ _. never-received IsDealt id.sub id.message t v id dealt-lasting refl refl (dealt-settled id.sub id.message t w p))).1

@@ -41,14 +41,14 @@ use Rattle.ps_sound.proofs.Dealt.{IsDealt, dealt-lasting, dealt-step, dealt-not-
 use Rattle.ps_sound.proofs.Stepping.{accepted-room, sound-settled}
 
 -- an id is the one that it is the same as
-id-same : (a b : AckId) → same_id a b ≡ true → a ≡ b
+pub id-same : (a b : AckId) → same_id a b ≡ true → a ≡ b
 id-same a b e =
     let p = and_parts (nat_eq a.sub b.sub) (nat_eq a.message b.message && nat_eq a.lease b.lease) e in
     let q = and_parts (nat_eq a.message b.message) (nat_eq a.lease b.lease) p.1 in
     λ i. record { sub = eqb-true a.sub b.sub p.0 i; message = eqb-true a.message b.message q.0 i; lease = eqb-true a.lease b.lease q.1 i }
 
 -- the test of one id that is among them fails, where none of those that pass it is the id
-left-out : (test : AckId → Bool) (id : AckId) (ids : List AckId) → list_any (same_id id) ids ≡ true → list_any (same_id id) (filter test ids) ≡ false → test id ≡ false
+pub left-out : (test : AckId → Bool) (id : AckId) (ids : List AckId) → list_any (same_id id) ids ≡ true → list_any (same_id id) (filter test ids) ≡ false → test id ≡ false
 left-out test id [] e none = absurd (false≢true e)
 left-out test id (x ∷ xs) e none = cases (same_id id x) refl (test x) refl e none (left-out test id xs)
   where
@@ -60,7 +60,7 @@ left-out test id (x ∷ xs) e none = cases (same_id id x) refl (test x) refl e n
     cases false ea false eb e none rest = rest e none
 
 -- taking each once leaves every one of them
-once-any : (id : AckId) (seen ids : List AckId) → list_any (same_id id) seen ≡ false → list_any (same_id id) ids ≡ true → list_any (same_id id) (once_after same_id seen ids) ≡ true
+pub once-any : (id : AckId) (seen ids : List AckId) → list_any (same_id id) seen ≡ false → list_any (same_id id) ids ≡ true → list_any (same_id id) (once_after same_id seen ids) ≡ true
 once-any id seen [] none e = absurd (false≢true e)
 once-any id seen (x ∷ xs) none e = cases (same_id id x) refl (list_any (same_id x) seen) refl e
     (λ e'. once-any id seen xs none e') (λ ea e'. once-any id (x ∷ seen) xs (or_from (same_id id x) (list_any (same_id id) seen) ea none) e')
@@ -86,7 +86,7 @@ ticket-any test sub id (x ∷ xs) good own e = cases (same_id id x) refl (nat_eq
     cases false ea true eb e rest = or_right (test (ticket_of x)) (list_any test (tickets_of sub xs)) (rest e)
     cases false ea false eb e rest = rest e
 
-any-map-filter : {A B : Type 0} (test : B → Bool) (g : A → B) (p : A → Bool) (xs : List A) → list_any test (map g (filter p xs)) ≡ list_any (λ x. p x && test (g x)) xs
+pub any-map-filter : {A B : Type 0} (test : B → Bool) (g : A → B) (p : A → Bool) (xs : List A) → list_any test (map g (filter p xs)) ≡ list_any (λ x. p x && test (g x)) xs
 any-map-filter test g p [] = refl
 any-map-filter test g p (x ∷ xs) = cases (p x) (any-map-filter test g p xs)
   where
@@ -94,16 +94,16 @@ any-map-filter test g p (x ∷ xs) = cases (p x) (any-map-filter test g p xs)
     cases true ih = ap (λ b. test (g x) || b) ih
     cases false ih = ih
 
-none-any : {A : Type 0} (test : A → Bool) (xs : List A) → list_any test xs ≡ false → AllByRecursion (λ x. test x ≡ false) xs
+pub none-any : {A : Type 0} (test : A → Bool) (xs : List A) → list_any test xs ≡ false → AllByRecursion (λ x. test x ≡ false) xs
 none-any test [] e = tt
 none-any test (x ∷ xs) e = let p = or_parts (test x) (list_any test xs) e in (p.0, none-any test xs p.1)
 
-first-of : (a b : Bool) → (a || b) ≡ true → b ≡ false → a ≡ true
+pub first-of : (a b : Bool) → (a || b) ≡ true → b ≡ false → a ≡ true
 first-of true b e none = refl
 first-of false b e none = absurd (both_ways b none e)
 
 -- the one row of a pair has the mark that some row of it has
-all-same : (n k : ℕ) (test : MarkRow → Bool) (rows : List MarkRow) → Ordered Precedes rows → list_any (λ r. is_at n k r && test r) rows ≡ true → AllByRecursion (λ (r : MarkRow). r.sub ≡ n → r.message ≡ k → test r ≡ true) rows
+pub all-same : (n k : ℕ) (test : MarkRow → Bool) (rows : List MarkRow) → Ordered Precedes rows → list_any (λ r. is_at n k r && test r) rows ≡ true → AllByRecursion (λ (r : MarkRow). r.sub ≡ n → r.message ≡ k → test r ≡ true) rows
 all-same n k test [] o e = tt
 all-same n k test (x ∷ xs) o e = cases (is_at n k x) refl (all-same n k test xs o.1)
   where

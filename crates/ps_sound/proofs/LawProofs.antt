@@ -37,14 +37,14 @@ settled-order w at h = either (is_full w)
     either false = (sound-settled (moment w at) w later last h).underway.marks.ascend
 
 pub handed_out_in_order : HandedOutInOrder
-handed_out_in_order w at c h = (outcome-keeps (moment w at) (settled (moment w at) w) InNumberOrder tt (handed-in-order (moment w at) (settled (moment w at) w) (settled-order w at h)) (as_read c)).1
+handed_out_in_order w at c h = (outcome-keeps (moment w at) (settled (moment w at) w) InNumberOrder tt (as_read c) (λ _. handed-in-order (moment w at) (settled (moment w at) w) (settled-order w at h))).1
 
 pub never_kept_again : NeverKeptAgain
 never_kept_again w e number h accepted lost =
     let t = moment w e.now in
     let v = settled t w in
     let order : Ordered Precedes v.marks = settled-order w e.now h in
-    lost-finished t v InNumberOrder tt (handed-in-order t v order) (outcome v t (as_read e.command)) (outcome-keeps t v InNumberOrder tt (handed-in-order t v order) (as_read e.command)).0 number (either (is_full w) t)
+    lost-finished t v InNumberOrder tt (outcome v t (as_read e.command)) (outcome-keeps t v InNumberOrder tt (as_read e.command) (λ _. handed-in-order t v order)).0 number (either (is_full w) t)
   where
     either : (full : Bool) (t : ℕ) → is_lost (message_numbered (cond full w (settle t w)).messages number) ≡ true
     either true t = lost

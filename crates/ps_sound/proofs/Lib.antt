@@ -39,4 +39,9 @@ pub mod Pairs
 pub mod PairSteps
 pub mod Dealt
 pub mod ForGood
+pub mod SubSteps
+pub mod HandedOnce
+pub mod GivenUp
+pub mod HandedLaw
+pub mod HandedFirst
 pub mod LawProofs

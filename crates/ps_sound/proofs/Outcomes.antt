@@ -81,7 +81,7 @@ each-first : (P : Slot → Type 0) (most budget : ℕ) (xs : List Slot) → AllB
 each-first P most budget [] h = tt
 each-first P most budget (s ∷ ss) h = cond_both (nat_eq most 0 || nat_eq budget 0) [] (s ∷ first_of_them (most - 1) (budget - s.item.size) ss) (AllByRecursion P) (λ _. tt) (λ _. (h.0, each-first P (most - 1) (budget - s.item.size) ss h.1))
 
-first-ordered : (R : Slot → Slot → Type 0) (most budget : ℕ) (xs : List Slot) → Ordered R xs → Ordered R (first_of_them most budget xs)
+pub first-ordered : (R : Slot → Slot → Type 0) (most budget : ℕ) (xs : List Slot) → Ordered R xs → Ordered R (first_of_them most budget xs)
 first-ordered R most budget [] h = tt
 first-ordered R most budget (s ∷ ss) h = cond_both (nat_eq most 0 || nat_eq budget 0) [] (s ∷ first_of_them (most - 1) (budget - s.item.size) ss) (Ordered R) (λ _. tt)
     (λ _. (each-first (R s) (most - 1) (budget - s.item.size) ss h.0, first-ordered R (most - 1) (budget - s.item.size) ss h.1))
@@ -110,7 +110,16 @@ handed-in-order t v order sub most budget =
     (handed-ordered sub.next_lease (choice t sub.config.ordering most budget (slots_of v sub.number)) (first-ordered (λ (a b : Slot). a.item.number < b.item.number) most budget (deliverable t sub.config.ordering (slots_of v sub.number))
     (ordered-filter (λ (a b : Slot). a.item.number < b.item.number) (is_deliverable t sub.config.ordering (slots_of v sub.number)) (slots_of v sub.number) (slots-ascend v sub.number order))))
 
-module _ (t : ℕ) (v : World) (Q : List ReceivedMessage → Type 0) (none : Q []) (pulls : (sub : SubRow) (most budget : ℕ) → Q (received_all v sub (handed sub.next_lease (choice t sub.config.ordering most budget (slots_of v sub.number))))) where
+-- the command hands messages out
+abbrev pub is_pull : Command → Bool
+is_pull (Pull subscription most budget seconds) = true
+is_pull _ = false
+
+module _ (t : ℕ) (v : World) (Q : List ReceivedMessage → Type 0) (none : Q []) where
+  -- of each choice
+  abbrev Pulls : Type 0
+  Pulls = (sub : SubRow) (most budget : ℕ) → Q (received_all v sub (handed sub.next_lease (choice t sub.config.ordering most budget (slots_of v sub.number))))
+
   -- the same messages
   still : LostStays v v
   still n e = e
@@ -172,13 +181,13 @@ module _ (t : ℕ) (v : World) (Q : List ReceivedMessage → Type 0) (none : Q [
   detach-keeps name None = (tt, none)
   detach-keeps name (Some row) = (still, none)
 
-  pull-from-keeps : (sub : SubRow) (most budget seconds : ℕ) (detached : Bool) → Keeps Q v (pull_from v t sub most budget seconds detached)
-  pull-from-keeps sub most budget seconds true = (tt, none)
-  pull-from-keeps sub most budget seconds false = (still, pulls sub most budget)
+  pull-from-keeps : Pulls → (sub : SubRow) (most budget seconds : ℕ) (detached : Bool) → Keeps Q v (pull_from v t sub most budget seconds detached)
+  pull-from-keeps pulls sub most budget seconds true = (tt, none)
+  pull-from-keeps pulls sub most budget seconds false = (still, pulls sub most budget)
 
-  pull-keeps : (name : List ℕ) (most budget : ℕ) (asked : Option ℕ) (o : Option SubRow) → Keeps Q v (pull_at v t name most budget asked o)
-  pull-keeps name most budget asked None = (tt, none)
-  pull-keeps name most budget asked (Some sub) = pull-from-keeps sub most budget (unwrap_or asked sub.config.ack_seconds) sub.detached
+  pull-keeps : Pulls → (name : List ℕ) (most budget : ℕ) (asked : Option ℕ) (o : Option SubRow) → Keeps Q v (pull_at v t name most budget asked o)
+  pull-keeps pulls name most budget asked None = (tt, none)
+  pull-keeps pulls name most budget asked (Some sub) = pull-from-keeps pulls sub most budget (unwrap_or asked sub.config.ack_seconds) sub.detached
 
   acknowledge-keeps : (name : List ℕ) (ids : List AckId) (o : Option SubRow) → Keeps Q v (acknowledge_at v name ids o)
   acknowledge-keeps name ids None = (tt, none)
@@ -227,38 +236,38 @@ module _ (t : ℕ) (v : World) (Q : List ReceivedMessage → Type 0) (none : Q [
   delete_snap-keeps name None = (tt, none)
   delete_snap-keeps name (Some row) = (still, none)
 
-  carried-keeps : (c : Command) → Keeps Q v (carried v t c)
-  carried-keeps Tick = (tt, none)
-  carried-keeps (CreateTopic topic config) = create_topic-keeps topic config (topic_named v topic)
-  carried-keeps (UpdateTopic topic mask config) = update_topic-keeps topic mask config (topic_named v topic)
-  carried-keeps (GetTopic topic) = get_topic-keeps topic (topic_named v topic)
-  carried-keeps (DeleteTopic topic) = delete_topic-keeps topic (topic_named v topic)
-  carried-keeps (ListTopics project paging) = (tt, none)
-  carried-keeps (ListTopicSubscriptions topic paging) = list_topic_subs-keeps paging topic (topic_named v topic)
-  carried-keeps (ListTopicSnapshots topic paging) = list_topic_snaps-keeps paging topic (topic_named v topic)
-  carried-keeps (Publish topic messages) = publish-keeps topic messages (topic_named v topic)
-  carried-keeps (CreateSubscription subscription topic config) = create_sub-keeps subscription topic config (topic_named v topic)
-  carried-keeps (UpdateSubscription subscription mask config) = update_sub-keeps subscription mask config (sub_named v subscription)
-  carried-keeps (GetSubscription subscription) = get_sub-keeps subscription (sub_named v subscription)
-  carried-keeps (DeleteSubscription subscription) = delete_sub-keeps subscription (sub_named v subscription)
-  carried-keeps (ListSubscriptions project paging) = (tt, none)
-  carried-keeps (Pull subscription most budget seconds) = pull-keeps subscription most budget seconds (sub_named v subscription)
-  carried-keeps (Acknowledge subscription ids) = acknowledge-keeps subscription ids (sub_named v subscription)
-  carried-keeps (ModifyAckDeadline subscription items) = modify-keeps subscription items (sub_named v subscription)
-  carried-keeps (SeekTime subscription time) = seek_time-keeps subscription time (sub_named v subscription)
-  carried-keeps (SeekSnapshot subscription snapshot) = seek_snap-keeps subscription snapshot (sub_named v subscription) (snap_named v snapshot)
-  carried-keeps (Detach subscription) = detach-keeps subscription (sub_named v subscription)
-  carried-keeps (CreateSnapshot snapshot subscription labels) = create_snap-keeps snapshot subscription labels (sub_named v subscription) (snap_named v snapshot)
-  carried-keeps (UpdateSnapshot snapshot labels) = update_snap-keeps snapshot labels (snap_named v snapshot)
-  carried-keeps (GetSnapshot snapshot) = get_snap-keeps snapshot (snap_named v snapshot)
-  carried-keeps (DeleteSnapshot snapshot) = delete_snap-keeps snapshot (snap_named v snapshot)
-  carried-keeps (ListSnapshots project paging) = (tt, none)
+  carried-keeps : (c : Command) → (is_pull c ≡ true → Pulls) → Keeps Q v (carried v t c)
+  carried-keeps Tick pulls = (tt, none)
+  carried-keeps (CreateTopic topic config) pulls = create_topic-keeps topic config (topic_named v topic)
+  carried-keeps (UpdateTopic topic mask config) pulls = update_topic-keeps topic mask config (topic_named v topic)
+  carried-keeps (GetTopic topic) pulls = get_topic-keeps topic (topic_named v topic)
+  carried-keeps (DeleteTopic topic) pulls = delete_topic-keeps topic (topic_named v topic)
+  carried-keeps (ListTopics project paging) pulls = (tt, none)
+  carried-keeps (ListTopicSubscriptions topic paging) pulls = list_topic_subs-keeps paging topic (topic_named v topic)
+  carried-keeps (ListTopicSnapshots topic paging) pulls = list_topic_snaps-keeps paging topic (topic_named v topic)
+  carried-keeps (Publish topic messages) pulls = publish-keeps topic messages (topic_named v topic)
+  carried-keeps (CreateSubscription subscription topic config) pulls = create_sub-keeps subscription topic config (topic_named v topic)
+  carried-keeps (UpdateSubscription subscription mask config) pulls = update_sub-keeps subscription mask config (sub_named v subscription)
+  carried-keeps (GetSubscription subscription) pulls = get_sub-keeps subscription (sub_named v subscription)
+  carried-keeps (DeleteSubscription subscription) pulls = delete_sub-keeps subscription (sub_named v subscription)
+  carried-keeps (ListSubscriptions project paging) pulls = (tt, none)
+  carried-keeps (Pull subscription most budget seconds) pulls = pull-keeps (pulls refl) subscription most budget seconds (sub_named v subscription)
+  carried-keeps (Acknowledge subscription ids) pulls = acknowledge-keeps subscription ids (sub_named v subscription)
+  carried-keeps (ModifyAckDeadline subscription items) pulls = modify-keeps subscription items (sub_named v subscription)
+  carried-keeps (SeekTime subscription time) pulls = seek_time-keeps subscription time (sub_named v subscription)
+  carried-keeps (SeekSnapshot subscription snapshot) pulls = seek_snap-keeps subscription snapshot (sub_named v subscription) (snap_named v snapshot)
+  carried-keeps (Detach subscription) pulls = detach-keeps subscription (sub_named v subscription)
+  carried-keeps (CreateSnapshot snapshot subscription labels) pulls = create_snap-keeps snapshot subscription labels (sub_named v subscription) (snap_named v snapshot)
+  carried-keeps (UpdateSnapshot snapshot labels) pulls = update_snap-keeps snapshot labels (snap_named v snapshot)
+  carried-keeps (GetSnapshot snapshot) pulls = get_snap-keeps snapshot (snap_named v snapshot)
+  carried-keeps (DeleteSnapshot snapshot) pulls = delete_snap-keeps snapshot (snap_named v snapshot)
+  carried-keeps (ListSnapshots project paging) pulls = (tt, none)
 
-  checked-keeps : (c : Command) (fault : Option Reason) → Keeps Q v (checked v t c fault)
-  checked-keeps c (Some reason) = (tt, none)
-  checked-keeps c None = cond_both (is_full v) (refuses v Exhausted) (carried v t c) (Keeps Q v) (λ _. (tt, none)) (λ _. carried-keeps c)
+  checked-keeps : (c : Command) (fault : Option Reason) → (is_pull c ≡ true → Pulls) → Keeps Q v (checked v t c fault)
+  checked-keeps c (Some reason) pulls = (tt, none)
+  checked-keeps c None pulls = cond_both (is_full v) (refuses v Exhausted) (carried v t c) (Keeps Q v) (λ _. (tt, none)) (λ _. carried-keeps c pulls)
 
-  pub outcome-keeps : (c : Command) → Keeps Q v (outcome v t c)
+  pub outcome-keeps : (c : Command) → (is_pull c ≡ true → Pulls) → Keeps Q v (outcome v t c)
   outcome-keeps c = checked-keeps c (argument_fault c)
 
   -- what is let go of the settled world stays so in the one that the command leaves

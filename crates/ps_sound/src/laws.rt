@@ -1,4 +1,4 @@
-ghost use Rattle.ps_model.specs.Laws.{StaysSound, AcknowledgedForGood, LeasedInOrder, SoughtToTime, SoughtToSnapshot, HandedOutInOrder, NeverKeptAgain, SettledAtNow, SettledAfterStep};
+ghost use Rattle.ps_model.specs.Laws.{StaysSound, HandedOutOnce, AcknowledgedForGood, LeasedInOrder, SoughtToTime, SoughtToSnapshot, HandedOutInOrder, NeverKeptAgain, SettledAtNow, SettledAfterStep};
 ghost use Rattle.ps_sound.specs.Histories.{SoundAfterHistories};
 
 /// Each accepted entry keeps a sound world so.
@@ -51,4 +51,9 @@ pub fn law_4_snapshot()
 /// What was acknowledged in exactly-once mode isn't handed out again without a seek.
 pub fn law_2()
     ensures { AcknowledgedForGood }
+{}
+
+/// Where a message is handed out twice on a subscription, something ended the first lease between.
+pub fn law_1()
+    ensures { HandedOutOnce }
 {}

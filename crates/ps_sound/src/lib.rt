@@ -4,6 +4,6 @@
 mod laws;
 
 pub use laws::{
-    law_2, law_3, law_4_snapshot, law_4_time, law_handed_out_in_order, law_never_kept_again,
+    law_1, law_2, law_3, law_4_snapshot, law_4_time, law_handed_out_in_order, law_never_kept_again,
     law_settled_after_step, law_settled_at_now, law_sound_after_histories, law_stays_sound,
 };
