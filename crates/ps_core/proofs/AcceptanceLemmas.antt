@@ -11,7 +11,7 @@ use Rattle.ps_model.specs.Commands.{is_full}
 use Rattle.ps_model.specs.History.{IsAccepted, IsHistory, after}
 use Rattle.ps_model.specs.Same.{same_world}
 use Rattle.ps_model.specs.Step as rules
-use Rattle.ps_core.specs.Acceptance.{CoreAccepts, CoreHistoriesLead, AllBuilt, after_entry}
+use Rattle.ps_core.specs.Acceptance.{AcceptsWhatIsRecorded, HistoriesLead, AllBuilt, after_entry}
 use Rattle.ps_core.specs.Built.{unbuilt}
 use Rattle.ps_core.specs.Calls.{is_normal, is_tick, is_step, is_accepted, next}
 use Rattle.ps_core.proofs.ApplyingLemmas.{normal-read, tick-is}
@@ -54,8 +54,8 @@ made-goes t u c built false rests h =
     let e : entry t (as_read c) ≡ entry u c = cc in
     record { moment = ap (λ (x : Entry). x.now) e; goes = ap is_normal (sym (ap (λ (x : Entry). x.command) e)) ∙ read-normal c built }
 
-pub core_accepts : CoreAccepts
-core_accepts w e v = (λ h. forth (is_accepted w e) refl h, back)
+pub accepts : AcceptsWhatIsRecorded
+accepts w e v = (λ h. forth (is_accepted w e) refl h, back)
   where
     at : ℕ
     at = rules.moment w e.now
@@ -108,13 +108,13 @@ leads w (e ∷ es) v h = by (next w e) refl (leads (rules.step w e) es v) h
         → ((unbuilt e.command ≡ None) × AllBuilt es) × (IsAccepted w e × IsHistory (rules.step w e) es) × (v ≡ after (rules.step w e) es)
     by None is more h = let nothing = after_none es in absurd (cc)
     by (Some made) is more h =
-        let one = (core_accepts w e made).0 is in
+        let one = (accepts w e made).0 is in
         let rest = more (ap (λ (x : World). fold after_entry (Some x) es) (sym one.2) ∙ h) in
         ((one.0, rest.0), (one.1, rest.1), rest.2)
 
 led : (w : World) (es : List Entry) (v : World) → AllBuilt es × IsHistory w es × (v ≡ after w es) → fold after_entry (Some w) es ≡ Some v
 led w [] v h = ap Some (sym h.2)
-led w (e ∷ es) v h = ap (λ (o : Option World). fold after_entry o es) ((core_accepts w e (rules.step w e)).1 (h.0.0, h.1.0, refl)) ∙ led (rules.step w e) es v (h.0.1, h.1.1, h.2)
+led w (e ∷ es) v h = ap (λ (o : Option World). fold after_entry o es) ((accepts w e (rules.step w e)).1 (h.0.0, h.1.0, refl)) ∙ led (rules.step w e) es v (h.0.1, h.1.1, h.2)
 
-pub core_histories_lead : CoreHistoriesLead
-core_histories_lead w es v = (leads w es v, led w es v)
+pub histories_lead : HistoriesLead
+histories_lead w es v = (leads w es v, led w es v)

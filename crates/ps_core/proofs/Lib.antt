@@ -1,8 +1,3 @@
-pub mod Finds
-pub mod SameLemmas
-pub mod Calls
-pub mod Accepting
-pub mod SpellingLemmas
 pub mod EachLemmas
 pub mod FlatMarks
 pub mod FlatEntering

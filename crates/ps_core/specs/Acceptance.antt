@@ -8,8 +8,8 @@ use Rattle.ps_core.specs.Built.{unbuilt}
 use Rattle.ps_core.specs.Calls.{next}
 
 -- of what is built, an entry is accepted exactly where it is what would be recorded of its own command at its own moment
-abbrev pub CoreAccepts : Type 0
-CoreAccepts = (w : World) (e : Entry) (v : World) → (next w e ≡ Some v) ↔ ((unbuilt e.command ≡ None) × IsAccepted w e × (v ≡ step w e))
+abbrev pub AcceptsWhatIsRecorded : Type 0
+AcceptsWhatIsRecorded = (w : World) (e : Entry) (v : World) → (next w e ≡ Some v) ↔ ((unbuilt e.command ≡ None) × IsAccepted w e × (v ≡ step w e))
 
 -- the world after one more entry, where there is one and it is accepted
 abbrev pub after_entry : Option World → Entry → Option World
@@ -20,5 +20,5 @@ AllBuilt [] = Unit {0}
 AllBuilt (e ∷ es) = (unbuilt e.command ≡ None) × AllBuilt es
 
 -- entries lead to a world one by one exactly where they are a history of what is built, and it is the world after them
-abbrev pub CoreHistoriesLead : Type 0
-CoreHistoriesLead = (w : World) (es : List Entry) (v : World) → (fold after_entry (Some w) es ≡ Some v) ↔ (AllBuilt es × IsHistory w es × (v ≡ after w es))
+abbrev pub HistoriesLead : Type 0
+HistoriesLead = (w : World) (es : List Entry) (v : World) → (fold after_entry (Some w) es ≡ Some v) ↔ (AllBuilt es × IsHistory w es × (v ≡ after w es))

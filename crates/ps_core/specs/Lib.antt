@@ -1,11 +1,3 @@
-pub mod Same
-pub mod Outcomes
-pub mod Topics
-pub mod Commands
-pub mod Step
-pub mod Spelling
-pub mod History
-pub mod Laws
 pub mod Built
 pub mod State
 pub mod Steady

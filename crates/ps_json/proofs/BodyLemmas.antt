@@ -6,7 +6,8 @@ use Rattle.ps_base.specs.declared.reason.Reason.TheVariants.{Name}
 use Rattle.ps_base.specs.declared.refusal.Refusal.{Refusal}
 use Rattle.ps_base.specs.declared.refusal.Refusal.TheVariants.{InvalidArgument}
 use Rattle.ps_names.specs.Names.{is_topic_name}
-use Rattle.ps_core.specs.declared.command.Command.TheVariants.{CreateTopic}
+use Rattle.ps_model.specs.declared.command.Command.TheVariants.{CreateTopic}
+use Rattle.ps_model.specs.Masks.{default_topic}
 use Rattle.ps_json.specs.Fields.{first_filled}
 use Rattle.ps_json.specs.Body.{create_topic, name_fault, unless}
 
@@ -29,7 +30,7 @@ grammar_told name d ms object plain none =
 -- no field stood in the way, and the name is in the grammar
 pub name_told : (name topic : List ℕ) (d : Data) (ms : Members) (fault : Option Refusal) → Some ms ≡ as_object d → None ≡ first_filled (codes "name") ms
     → Some topic ≡ (if is_topic_name name then Some name else None) → fault ≡ name_fault name (get_member (codes "name") ms)
-    → unless fault (CreateTopic topic) ≡ create_topic name d
+    → unless fault (CreateTopic topic default_topic) ≡ create_topic name d
 name_told name topic d ms fault object plain some tells =
     let good : is_topic_name name ≡ true = (met _ name topic some).0 in
     let same : topic ≡ name = (met _ name topic some).1 in

@@ -8,8 +8,9 @@ use Rattle.ps_base.specs.declared.reason.Reason.TheVariants.{Body, Name, Shape}
 use Rattle.ps_base.specs.declared.refusal.Refusal.{Refusal}
 use Rattle.ps_base.specs.declared.refusal.Refusal.TheVariants.{InvalidArgument, Unimplemented}
 use Rattle.ps_names.specs.Names.{is_topic_name}
-use Rattle.ps_core.specs.declared.command.Command.{Command}
-use Rattle.ps_core.specs.declared.command.Command.TheVariants.{CreateTopic}
+use Rattle.ps_model.specs.declared.command.Command.{Command}
+use Rattle.ps_model.specs.declared.command.Command.TheVariants.{CreateTopic}
+use Rattle.ps_model.specs.Masks.{default_topic}
 use Rattle.ps_json.specs.Fields.{first_filled}
 
 -- a field other than `name` that isn't empty
@@ -42,4 +43,4 @@ unless (Some fault) command = Err fault
 
 -- what a creation asks, by the name in its path and its body
 abbrev pub create_topic : List ℕ → Data → Result Command Refusal
-create_topic name body = unless (body_fault name (as_object body)) (CreateTopic name)
+create_topic name body = unless (body_fault name (as_object body)) (CreateTopic name default_topic)

@@ -4,8 +4,8 @@ use Rattle.serde_json.specs.Data.{Data, number, unsigned, string, object, member
 use Rattle.serde_json.specs.Written.{compact_text}
 use Rattle.ps_base.specs.Refusals.{code_of, message_of, status_of}
 use Rattle.ps_base.specs.declared.refusal.Refusal.{Refusal}
-use Rattle.ps_core.specs.declared.reply.Reply.{Reply}
-use Rattle.ps_core.specs.declared.reply.Reply.TheVariants.{Empty, Topic, Refused}
+use Rattle.ps_model.specs.declared.reply.Reply.{Reply}
+use Rattle.ps_model.specs.declared.reply.Reply.TheVariants.{Topic, Refused}
 
 -- JSON with no space and its keys in byte order, and a line feed
 abbrev pub line_text : Data → List ℕ
@@ -36,8 +36,8 @@ refusal_text refusal = error_text (code_of refusal) (message_of refusal) (status
 abbrev pub no_line_text : List ℕ
 no_line_text = error_text 400 (codes "line") (codes "INVALID_ARGUMENT")
 
--- the line of a reply
+-- the line of a reply; what no line asks yet is told as nothing
 abbrev pub reply_text : Reply → List ℕ
-reply_text Empty = line_text (reply_data 200 (object no_members))
 reply_text (Topic topic) = line_text (reply_data 200 (topic_data topic.name))
 reply_text (Refused refusal) = refusal_text refusal
+reply_text _ = line_text (reply_data 200 (object no_members))

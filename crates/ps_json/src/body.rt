@@ -1,11 +1,12 @@
 // What the body of a topic's creation may say.
 ghost use Rattle.std.specs.Prelude.{◌≡◌, IfOk, option_map};
 ghost use Rattle.serde_json.specs.View.{view};
+ghost use Rattle.ps_model.specs.Masks.{default_topic};
 ghost use Rattle.ps_json.specs.Body as spec;
 
 use crate::fields::{field, first_filled};
-use ps_base::{OutOfMemory, Reason, Refusal, Text};
-use ps_core::Command;
+use ps_base::{Labels, OutOfMemory, Reason, Refusal, Text};
+use ps_model::{Command, TopicConfig};
 use ps_names::TopicName;
 use serde_json::Value;
 use std::alloc::Global;
@@ -29,7 +30,20 @@ pub fn create_topic(
     };
     match name_fault(alloc, name, field(fields, "name"))? {
         Some(fault) => Ok(Err(fault)),
-        None => Ok(Ok(Command::CreateTopic { topic })),
+        None => Ok(Ok(Command::CreateTopic {
+            topic,
+            config: plain_config(alloc),
+        })),
+    }
+}
+
+/// The settings of a topic that asks for none.
+fn plain_config(alloc: Global) -> TopicConfig
+    ensures { result ≡ default_topic }
+{
+    TopicConfig {
+        labels: Labels::new(alloc),
+        retention: None,
     }
 }
 

@@ -6,7 +6,7 @@ ghost use Rattle.serde_json.specs.Written.{has_float};
 ghost use Rattle.ps_json.specs.Replies.{line_text, reply_data, error_data, error_text, topic_data, no_line_text, refusal_text, reply_text};
 
 use ps_base::{Octets, OutOfMemory, Refusal};
-use ps_core::Reply;
+use ps_model::Reply;
 use serde_json::{Map, Value, json};
 use std::alloc::{AllocError, Global};
 
@@ -15,9 +15,9 @@ pub fn print_reply(alloc: Global, reply: &Reply) -> Result<Octets, OutOfMemory>
     ensures { IfOk result (λ text. text ≡ reply_text reply.now) }
 {
     match reply {
-        Reply::Empty => reply_line(alloc, 200, Value::Object(Map::new(alloc))),
         Reply::Topic(topic) => topic_line(alloc, topic.name.as_str()),
         Reply::Refused(refusal) => refusal_line(alloc, refusal),
+        _ => reply_line(alloc, 200, Value::Object(Map::new(alloc))),
     }
 }
 

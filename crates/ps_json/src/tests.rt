@@ -1,13 +1,17 @@
 use super::*;
-use ps_base::{Refusal, Text};
-use ps_core::{Reply, TopicShown};
+use ps_base::{Labels, Refusal, Text};
+use ps_model::{Reply, TopicConfig, TopicShown};
 use std::test::Fail;
 
 #[test]
 fn replies_are_lines(rt: HostRuntime) -> Result<(), Fail> {
     let alloc = rt.alloc();
     let name = Text::from_str(alloc, "projects/p/topics/abc")?;
-    let made = print_reply(alloc, &Reply::Topic(TopicShown { name }))?;
+    let config = TopicConfig {
+        labels: Labels::new(alloc),
+        retention: None,
+    };
+    let made = print_reply(alloc, &Reply::Topic(TopicShown { name, config }))?;
     assert!(rt;
         made.as_slice()
             == b"{\"body\":{\"name\":\"projects/p/topics/abc\"},\"code\":200}\n".as_slice()

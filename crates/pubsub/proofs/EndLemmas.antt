@@ -9,10 +9,11 @@ use Rattle.pubsub.specs.declared.batch.End.{End}
 use Rattle.pubsub.specs.declared.batch.End.TheVariants as end
 use Rattle.pubsub.specs.declared.status.Status.{Status}
 use Rattle.pubsub.specs.declared.status.Status.TheVariants.{Done, Usage, ReadFault, WriteFault, StoreFault, BadRow, OutOfMemory, TooLong}
-use Rattle.ps_core.specs.Spelling.{spelled}
-use Rattle.ps_core.specs.Step.{empty_world, next}
-use Rattle.ps_core.specs.declared.world.World.{World}
-use Rattle.ps_core.specs.Laws.{counts_entries}
+use Rattle.ps_entry.specs.Entries.{entry_in as spelled}
+use Rattle.ps_model.specs.Step.{empty_world}
+use Rattle.ps_core.specs.Calls.{next}
+use Rattle.ps_model.specs.declared.world.World.{World}
+use Rattle.ps_core.specs.Counts.{counts_entries}
 use Rattle.ps_book.specs.Read.{HasBadRow}
 use Rattle.ps_book.proofs.Damage.{damaged}
 use Rattle.pubsub.specs.Ending.{HoldsAt, HasMeaning}

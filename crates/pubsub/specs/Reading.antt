@@ -3,7 +3,7 @@ use Rattle.std.specs.Prelude.{ℕ, List, Option, Some, None, Result, Ok, Err, co
 use Rattle.serde_json.specs.Data.{Data}
 use Rattle.ps_base.specs.declared.refusal.Refusal.{Refusal}
 use Rattle.ps_base.specs.declared.refusal.Refusal.TheVariants.{Unimplemented}
-use Rattle.ps_core.specs.declared.command.Command.{Command}
+use Rattle.ps_model.specs.declared.command.Command.{Command}
 use Rattle.pubsub.specs.declared.protocol.Reading.{Reading}
 use Rattle.pubsub.specs.declared.protocol.Reading.TheVariants.{Call, Refused}
 use Rattle.ps_json.specs.Body.{create_topic}

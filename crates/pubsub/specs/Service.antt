@@ -1,9 +1,10 @@
 -- The service that `batch` runs: what a log means, what a line is told, and what state it leaves.
 use Rattle.std.specs.Prelude.{ℕ, List, Option}
 use Rattle.ps_keeper.specs.Log.{Log}
-use Rattle.ps_core.specs.declared.world.World.{World}
-use Rattle.ps_core.specs.Spelling.{spelled}
-use Rattle.ps_core.specs.Step.{empty_world, next, reply, entry_of}
+use Rattle.ps_model.specs.declared.world.World.{World}
+use Rattle.ps_entry.specs.Entries.{entry_in as spelled}
+use Rattle.ps_model.specs.Step.{empty_world}
+use Rattle.ps_core.specs.Calls.{next, reply, entry_of}
 use Rattle.ps_book.specs.Meaning.{meaning}
 use Rattle.pubsub.specs.Fates.{Fate, line_told, line_state}
 use Rattle.pubsub.specs.Reading.{reading_of}

@@ -1,6 +1,6 @@
 use crate::line::read_line;
 use crate::protocol::Reading;
-use ps_core::Command;
+use ps_model::Command;
 use std::alloc::Global;
 use std::test::Fail;
 
@@ -30,7 +30,7 @@ fn creates_abc(alloc: Global, line: &str, moment: u64) -> Result<bool, Fail> {
     match read_line(alloc, line.as_bytes())? {
         Reading::Call {
             now,
-            command: Command::CreateTopic { topic },
+            command: Command::CreateTopic { topic, .. },
         } => Ok(now == moment && topic.text() == "projects/p/topics/abc"),
         _ => Ok(false),
     }

@@ -6,8 +6,8 @@ ghost use Rattle.ps_json.specs.Shown.{shown};
 use crate::protocol::Reading;
 use crate::route::topic_of;
 use ps_base::{OutOfMemory, Refusal, Text};
-use ps_core::Command;
 use ps_json::{BatchLine, create_topic, no_line, read_batch_line, refusal_line};
+use ps_model::Command;
 use std::alloc::Global;
 
 /// What these bytes, a line without its line feed, ask.

@@ -8,14 +8,15 @@ ghost use Rattle.pubsub.specs.Ending.{OverKeeper, OverFile, AnswersAll, AnswersE
 ghost use Rattle.ps_edge.specs.Files.{HasAsked, SameFile};
 ghost use Rattle.pubsub.specs.Service.{world_of, told, state};
 ghost use Rattle.pubsub.specs.Statuses.{file_named, code_of, status_text, IsTold};
-ghost use Rattle.ps_core.specs.Spelling.{spelled};
-ghost use Rattle.ps_core.specs.Step.{empty_world, next};
+ghost use Rattle.ps_entry.specs.Entries.{entry_in as spelled};
+ghost use Rattle.ps_model.specs.Step.{empty_world};
+ghost use Rattle.ps_core.specs.Calls.{next};
 
 use crate::batch::run_lines;
 use crate::protocol::Protocol;
 use crate::status::{Status, status_of_begin, status_of_run, tell};
 use ps_book::{Book, Unbegun};
-use ps_core::Topics;
+use ps_core::Core;
 use ps_edge::{Cabinet, Sink, Source};
 use ps_keeper::{Keeper, KeeperError};
 use std::alloc::Global;
@@ -186,7 +187,7 @@ pub fn run_offline<I: Source, O: Sink, E: Sink, S: Cabinet>(
 {
     match file_of(words) {
         Some(file) => {
-            let status = answer_file::<Topics, I, O, S>(alloc, file, input, output, cabinet);
+            let status = answer_file::<Core, I, O, S>(alloc, file, input, output, cabinet);
             tell(faults, status);
             status.code()
         }

@@ -3,7 +3,7 @@
 use crate::offline::{answer_all, run_offline};
 use crate::status::Status;
 use ps_base::{List, Octets};
-use ps_core::Topics;
+use ps_core::Core;
 use ps_edge::{Cabinet, Failed, Got, MemoryCabinet, MemorySink, MemorySource, Sink, Source};
 use ps_keeper::{Keeper, KeeperError, MemoryKeeper, Row, When};
 use std::alloc::Global;
@@ -385,7 +385,7 @@ fn a_row_out_of_sequence_is_bad(rt: HostRuntime) -> Result<(), Fail> {
     let alloc = rt.alloc();
     let mut input = MemorySource::new(Octets::from_slice(alloc, b"")?, List::new(alloc));
     let mut output = sink(alloc);
-    let ended = answer_all::<Topics, Skewed, MemorySource, MemorySink>(
+    let ended = answer_all::<Core, Skewed, MemorySource, MemorySink>(
         alloc,
         Skewed,
         &mut input,

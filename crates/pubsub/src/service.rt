@@ -1,11 +1,12 @@
 use crate::line::read_line;
 use crate::protocol::{Protocol, Reading};
 use ps_base::{Octets, OutOfMemory};
-use ps_core::{Command, Reply, Topics};
+use ps_core::Core;
 use ps_json::print_reply;
+use ps_model::{Command, Reply};
 use std::alloc::Global;
 
-impl Protocol for Topics {
+impl Protocol for Core {
     ghost use Rattle.pubsub.specs.Reading as spec;
     ghost use Rattle.ps_json.specs.Replies.{reply_text};
 

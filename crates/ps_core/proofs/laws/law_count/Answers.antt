@@ -1,4 +1,4 @@
-use Rattle.ps_core.specs.Laws.{counts_entries}
+use Rattle.ps_core.specs.Counts.{counts_entries}
 use Rattle.ps_core.proofs.laws.law_count.Goals as goal
 
 pub returns : goal.returns

@@ -15,5 +15,6 @@ returns-in-Some-3 c =
 
 pub returns-in-None : goal.returns-in-None
 returns-in-None c =
-    name_told c.args.name.now c.in-Some-2.topic _ (members_view c.in-Some.fields.now.entries) None c.in-Some.ensures c.in_default-first_filled.ensures (sym c.in-Some-2.is ∙ c.in_ok-topic.ensures)
-    (sym c.in-None.is ∙ (c.in_ok-fault.ensures ∙ ap (name_fault c.args.name.now) c.field.ensures))
+    rw c.plain_config.ensures
+    (name_told c.args.name.now c.in-Some-2.topic _ (members_view c.in-Some.fields.now.entries) None c.in-Some.ensures c.in_default-first_filled.ensures (sym c.in-Some-2.is ∙ c.in_ok-topic.ensures)
+    (sym c.in-None.is ∙ (c.in_ok-fault.ensures ∙ ap (name_fault c.args.name.now) c.field.ensures)))

@@ -1,0 +1,207 @@
+ghost use Rattle.std.specs.Prelude.{IfSome};
+ghost use Rattle.ps_core.specs.Calls.{CanWrite};
+
+use crate::service::Core;
+use ps_base::OutOfMemory;
+use ps_book::{Machine, Verdict};
+use ps_model::{Command, Entry, ReceivedMessage, Reply};
+use std::alloc::Global;
+use std::test::Fail;
+
+// Rows whose commands are given. Their moments aren't looked at.
+
+const TICK: &[u8] = b"\x01\0\0\0\0\0\0\0\0\x01";
+
+const TOPIC: &[u8] = b"\x01\0\0\0\0\0\0\0\0\x02\0\0\0\x15projects/p/topics/abc\0\0\0\0\0";
+
+/// With one label.
+const LABELLED_TOPIC: &[u8] = b"\x01\0\0\0\0\0\0\0\0\x02\0\0\0\x15projects/p/topics/abc\
+    \0\0\0\x01\0\0\0\x01a\0\0\0\x011\0";
+
+/// With the settings of a new subscription.
+const SUBSCRIPTION: &[u8] = b"\x01\0\0\0\0\0\0\0\0\x05\0\0\0\x1cprojects/p/subscriptions/sub\
+    \0\0\0\x15projects/p/topics/abc\0\0\0\x0a\0\0\0\0\0\x24\x0c\x84\0\0\0\0\0\0\x01\0\0\0\0\x9f\xa5\x24\0\
+    \0\0\0\0\0\0\0";
+
+/// Two messages with the payload `a`.
+const PUBLISH: &[u8] = b"\x01\0\0\0\0\0\0\0\0\x0c\0\0\0\x15projects/p/topics/abc\0\0\0\x02\
+    \0\0\0\x01a\0\0\0\0\0\0\0\0\0\0\0\x01a\0\0\0\0\0\0\0\0";
+
+/// Of 10 messages.
+const PULL: &[u8] = b"\x01\0\0\0\0\0\0\0\0\x0d\0\0\0\x1cprojects/p/subscriptions/sub\
+    \0\0\0\x0a\0\0\0\0\0\x98\x96\x80\0";
+
+/// Of more than 1,000 messages, with leases of 5 seconds.
+const WIDE_PULL: &[u8] = b"\x01\0\0\0\0\0\0\0\0\x0d\0\0\0\x1cprojects/p/subscriptions/sub\
+    \xff\xff\xff\xff\0\0\0\0\0\x98\x96\x80\x01\0\0\0\x05";
+
+/// Of no messages.
+const EMPTY_PULL: &[u8] = b"\x01\0\0\0\0\0\0\0\0\x0d\0\0\0\x1cprojects/p/subscriptions/sub\
+    \0\0\0\0\0\0\0\0\0\x98\x96\x80\0";
+
+/// Of message 1 by lease 1.
+const ACKNOWLEDGE: &[u8] = b"\x01\0\0\0\0\0\0\0\0\x0e\0\0\0\x1cprojects/p/subscriptions/sub\
+    \0\0\0\x01\0\0\0\0\0\0\0\x01\0\0\0\0\0\0\0\x01\0\0\0\0\0\0\0\x01";
+
+/// Of nothing.
+const EMPTY_ACKNOWLEDGE: &[u8] =
+    b"\x01\0\0\0\0\0\0\0\0\x0e\0\0\0\x1cprojects/p/subscriptions/sub\0\0\0\0";
+
+/// What a call comes to.
+#[derive(Clone, Copy)]
+struct Told {
+    code: u16,
+    /// The number of the first message published, or how many messages went out.
+    first: u64,
+    /// How many messages were published, or the lease of the last message that went out.
+    second: u64,
+    /// The moment of what is recorded, where the other core takes it. 0 where it doesn't, or nothing is.
+    recorded: u64,
+}
+
+fn last_lease(items: &[ReceivedMessage]) -> u64 {
+    match items.last() {
+        Some(item) => item.id.lease,
+        None => 0,
+    }
+}
+
+/// What is told of a reply, where nothing is recorded.
+fn reply_told(reply: &Reply) -> Told {
+    let (code, first, second) = match reply {
+        Reply::Published { first, number } => (200, *first, u64::from(*number)),
+        Reply::Received { items, .. } => (200, items.len() as u64, last_lease(items.as_slice())),
+        Reply::Refused(refusal) => (refusal.code(), 0, 0),
+        _ => (200, 0, 0),
+    };
+    Told {
+        code,
+        first,
+        second,
+        recorded: 0,
+    }
+}
+
+fn applied(core: &mut Core, alloc: Global, entry: Entry) -> Result<u64, OutOfMemory> {
+    let now = entry.now;
+    let taken = core.apply(alloc, &entry);
+    drop(entry);
+    Ok(if taken? { now } else { 0 })
+}
+
+/// The moment of the entry that a row spells, where the core takes it. 0 where it doesn't.
+fn replayed(core: &mut Core, alloc: Global, row: &[u8]) -> Result<u64, OutOfMemory> {
+    match Core::read_row(alloc, row)? {
+        Some(entry) => applied(core, alloc, entry),
+        None => Ok(0),
+    }
+}
+
+/// The same of an entry that is written as its row.
+fn rewritten(core: &mut Core, alloc: Global, entry: &Entry) -> Result<u64, OutOfMemory>
+    requires { CanWrite entry.now }
+{
+    let row = Core::write_row(alloc, entry)?;
+    replayed(core, alloc, row.as_slice())
+}
+
+fn verdict_told(
+    copy: &mut Core,
+    alloc: Global,
+    verdict: Verdict<Reply, Entry>,
+) -> Result<Told, OutOfMemory>
+    requires { IfSome verdict.entry CanWrite }
+{
+    let mut told = reply_told(&verdict.reply);
+    let recorded = match &verdict.entry {
+        Some(entry) => rewritten(copy, alloc, entry),
+        None => Ok(0),
+    };
+    drop(verdict);
+    told.recorded = recorded?;
+    Ok(told)
+}
+
+fn judged(
+    core: &mut Core,
+    copy: &mut Core,
+    alloc: Global,
+    now: u64,
+    command: &Command,
+) -> Result<Told, OutOfMemory> {
+    match core.judge(alloc, now, command) {
+        Ok(verdict) => verdict_told(copy, alloc, verdict),
+        Err(error) => Err(error),
+    }
+}
+
+/// Gives the command of a row to one core, and what that records to the other one.
+fn call(
+    core: &mut Core,
+    copy: &mut Core,
+    alloc: Global,
+    now: u64,
+    row: &[u8],
+) -> Result<Option<Told>, OutOfMemory> {
+    match Core::read_row(alloc, row)? {
+        Some(entry) => {
+            let told = judged(core, copy, alloc, now, &entry.command);
+            drop(entry);
+            Ok(Some(told?))
+        }
+        None => Ok(None),
+    }
+}
+
+#[test]
+fn a_session_is_answered_and_replayed(rt: HostRuntime) -> Result<(), Fail> {
+    let alloc = rt.alloc();
+    let mut core = Core::fresh(alloc)?;
+    let mut copy = Core::fresh(alloc)?;
+    let table: [(u64, &[u8], u16, u64, u64, u64); 22] = [
+        (1000, SUBSCRIPTION, 404, 0, 0, 0),
+        (1000, LABELLED_TOPIC, 501, 0, 0, 0),
+        (1000, TOPIC, 200, 0, 0, 1000),
+        (1000, TOPIC, 409, 0, 0, 0),
+        (1000, SUBSCRIPTION, 200, 0, 0, 1000),
+        (1000, SUBSCRIPTION, 409, 0, 0, 0),
+        (2000, PUBLISH, 200, 1, 2, 2000),
+        (3000, PULL, 200, 2, 2, 3000),
+        (3000, PULL, 200, 0, 0, 0),
+        (4000, ACKNOWLEDGE, 200, 0, 0, 4000),
+        (4000, ACKNOWLEDGE, 200, 0, 0, 0),
+        (12999, PULL, 200, 0, 0, 0),
+        (13000, PULL, 200, 1, 3, 13000),
+        (22999, TICK, 200, 0, 0, 0),
+        (23000, TICK, 200, 0, 0, 23000),
+        (23000, EMPTY_PULL, 400, 0, 0, 0),
+        (23000, EMPTY_ACKNOWLEDGE, 400, 0, 0, 0),
+        // The moment never goes back. The lease ends at 33000, and that is recorded of a refused call too.
+        (500, WIDE_PULL, 200, 1, 4, 23000),
+        (32999, EMPTY_PULL, 400, 0, 0, 0),
+        (33000, EMPTY_PULL, 400, 0, 0, 33000),
+        (33000, PULL, 200, 1, 5, 33000),
+        (43000, LABELLED_TOPIC, 501, 0, 0, 43000),
+    ];
+    for (now, row, code, first, second, recorded) in table {
+        let told = call(&mut core, &mut copy, alloc, now, row)?.ok_or("no row")?;
+        assert_eq!(rt; told.code, code, "{now}");
+        assert_eq!(rt; told.first, first, "{now}");
+        assert_eq!(rt; told.second, second, "{now}");
+        assert_eq!(rt; told.recorded, recorded, "{now}");
+    }
+    assert_eq!(rt; core.count(), 11);
+    assert_eq!(rt; copy.count(), 11);
+    Ok(())
+}
+
+#[test]
+fn no_log_begins_with_a_tick(rt: HostRuntime) -> Result<(), Fail> {
+    let alloc = rt.alloc();
+    let mut core = Core::fresh(alloc)?;
+    assert_eq!(rt;
+        replayed(&mut core, alloc, b"\x01\0\0\0\0\0\0\x03\xe8\x01")?,
+        0
+    );
+    Ok(())
+}
