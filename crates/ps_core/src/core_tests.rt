@@ -43,6 +43,22 @@ const EMPTY_PULL: &[u8] = b"\x01\0\0\0\0\0\0\0\0\x0d\0\0\0\x1cprojects/p/subscri
 const ACKNOWLEDGE: &[u8] = b"\x01\0\0\0\0\0\0\0\0\x0e\0\0\0\x1cprojects/p/subscriptions/sub\
     \0\0\0\x01\0\0\0\0\0\0\0\x01\0\0\0\0\0\0\0\x01\0\0\0\0\0\0\0\x01";
 
+/// One message with the payload `hi`.
+const PUBLISH_HI: &[u8] = b"\x01\0\0\0\0\0\0\0\0\x0c\0\0\0\x15projects/p/topics/abc\0\0\0\x01\
+    \0\0\0\x02hi\0\0\0\0\0\0\0\0";
+
+/// One message with an attribute and nothing else.
+const PUBLISH_ATTRIBUTE: &[u8] = b"\x01\0\0\0\0\0\0\0\0\x0c\0\0\0\x15projects/p/topics/abc\
+    \0\0\0\x01\0\0\0\0\0\0\0\x01\0\0\0\x01a\0\0\0\x011\0\0\0\0";
+
+/// One message with nothing.
+const PUBLISH_EMPTY: &[u8] = b"\x01\0\0\0\0\0\0\0\0\x0c\0\0\0\x15projects/p/topics/abc\
+    \0\0\0\x01\0\0\0\0\0\0\0\0\0\0\0\0";
+
+/// Of one message.
+const PULL_ONE: &[u8] = b"\x01\0\0\0\0\0\0\0\0\x0d\0\0\0\x1cprojects/p/subscriptions/sub\
+    \0\0\0\x01\0\0\0\0\0\x98\x96\x80\0";
+
 /// Of nothing.
 const EMPTY_ACKNOWLEDGE: &[u8] =
     b"\x01\0\0\0\0\0\0\0\0\x0e\0\0\0\x1cprojects/p/subscriptions/sub\0\0\0\0";
@@ -153,6 +169,70 @@ fn call(
     }
 }
 
+/// A call at a moment, its code and numbers, the moment of what is recorded, and how many entries there are then.
+type Step = (u64, &'static [u8], u16, u64, u64, u64, u64);
+
+/// Whether a call is told and recorded so, and the other core has as many entries.
+fn is_so(core: &mut Core, copy: &mut Core, alloc: Global, step: Step) -> Result<bool, OutOfMemory> {
+    let (now, row, code, first, second, recorded, entries) = step;
+    let Some(told) = call(core, copy, alloc, now, row)? else {
+        return Ok(false);
+    };
+    let answered = told.code == code && told.first == first && told.second == second;
+    let kept = told.recorded == recorded && core.count() == entries && copy.count() == entries;
+    Ok(answered && kept)
+}
+
+/// A topic, its subscription, a message and a lease of it.
+const LEASED: [Step; 4] = [
+    (1000, TOPIC, 200, 0, 0, 1000, 1),
+    (1000, SUBSCRIPTION, 200, 0, 0, 1000, 2),
+    (1000, PUBLISH_HI, 200, 1, 1, 1000, 3),
+    (2000, PULL_ONE, 200, 1, 1, 2000, 4),
+];
+
+/// Whether each step behind these four is so.
+fn all_so(alloc: Global, steps: &[Step]) -> Result<bool, OutOfMemory> {
+    let mut core = Core::fresh(alloc)?;
+    let mut copy = Core::fresh(alloc)?;
+    for step in LEASED.iter().chain(steps.iter()) {
+        if !is_so(&mut core, &mut copy, alloc, *step)? {
+            return Ok(false);
+        }
+    }
+    Ok(true)
+}
+
+#[test]
+fn leases_end_and_are_acknowledged(rt: HostRuntime) -> Result<(), Fail> {
+    let alloc = rt.alloc();
+    // A message is out again at its deadline, not a millisecond before.
+    let again: [Step; 2] = [
+        (11999, PULL_ONE, 200, 0, 0, 0, 4),
+        (12000, PULL_ONE, 200, 1, 2, 12000, 5),
+    ];
+    assert!(rt; all_so(alloc, &again)?);
+    // Its last lease acknowledges it when it is over, too.
+    let late: [Step; 2] = [
+        (12000, ACKNOWLEDGE, 200, 0, 0, 12000, 5),
+        (12000, PULL_ONE, 200, 0, 0, 0, 5),
+    ];
+    assert!(rt; all_so(alloc, &late)?);
+    // A second acknowledgement does nothing.
+    let twice: [Step; 2] = [
+        (3000, ACKNOWLEDGE, 200, 0, 0, 3000, 5),
+        (3000, ACKNOWLEDGE, 200, 0, 0, 0, 5),
+    ];
+    assert!(rt; all_so(alloc, &twice)?);
+    // A message has a payload or an attribute.
+    let messages: [Step; 2] = [
+        (3000, PUBLISH_EMPTY, 400, 0, 0, 0, 4),
+        (3000, PUBLISH_ATTRIBUTE, 200, 2, 1, 3000, 5),
+    ];
+    assert!(rt; all_so(alloc, &messages)?);
+    Ok(())
+}
+
 #[test]
 fn a_session_is_answered_and_replayed(rt: HostRuntime) -> Result<(), Fail> {
     let alloc = rt.alloc();
@@ -203,5 +283,58 @@ fn no_log_begins_with_a_tick(rt: HostRuntime) -> Result<(), Fail> {
         replayed(&mut core, alloc, b"\x01\0\0\0\0\0\0\x03\xe8\x01")?,
         0
     );
+    Ok(())
+}
+
+/// The next number of a fixed recurrence.
+fn following(number: u64) -> u64 {
+    number
+        .wrapping_mul(6_364_136_223_846_793_005)
+        .wrapping_add(1_442_695_040_888_963_407)
+}
+
+/// The row that a number says.
+fn chosen(number: u64) -> &'static [u8] {
+    match number % 8 {
+        0 => TICK,
+        1 => SUBSCRIPTION,
+        2 => ACKNOWLEDGE,
+        3 => EMPTY_PULL,
+        4 => WIDE_PULL,
+        5 => PUBLISH,
+        _ => PULL,
+    }
+}
+
+#[test]
+fn mixed_calls_are_replayed(rt: HostRuntime) -> Result<(), Fail> {
+    let alloc = rt.alloc();
+    let mut core = Core::fresh(alloc)?;
+    let mut copy = Core::fresh(alloc)?;
+    call(&mut core, &mut copy, alloc, 0, TOPIC)?.ok_or("no row")?;
+    let mut number = 1;
+    for _ in 0..10_000 {
+        number = following(number);
+        // The moments go forth and back, within 131 seconds.
+        call(
+            &mut core,
+            &mut copy,
+            alloc,
+            number >> 47,
+            chosen(number >> 33),
+        )?
+        .ok_or("no row")?;
+        assert_eq!(rt; copy.count(), core.count());
+    }
+    assert_eq!(rt; core.count() > 1000, true);
+    // Both go on alike.
+    let mut other = Core::fresh(alloc)?;
+    for row in [PULL, PUBLISH, WIDE_PULL, ACKNOWLEDGE, TICK] {
+        let told = call(&mut core, &mut other, alloc, 200_000, row)?.ok_or("no row")?;
+        let again = call(&mut copy, &mut other, alloc, 200_000, row)?.ok_or("no row")?;
+        assert_eq!(rt; again.code, told.code);
+        assert_eq!(rt; again.first, told.first);
+        assert_eq!(rt; again.second, told.second);
+    }
     Ok(())
 }
