@@ -5,7 +5,6 @@ pub mod OneShare
 pub mod SettlingLemmas
 pub mod PublishingLemmas
 pub mod DeliveringLemmas
-pub mod WakingLemmas
 pub mod LoopLemmas
 pub mod KeepingLemmas
 pub mod CarryingLemmas
@@ -15,5 +14,7 @@ pub mod SearchLemmas
 pub mod HandingLemmas
 pub mod TickLemmas
 pub mod JudgingLemmas
+pub mod DueLemmas
 pub mod ApplyingLemmas
 pub mod AcceptanceLemmas
+pub mod StatLemmas

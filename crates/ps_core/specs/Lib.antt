@@ -3,7 +3,6 @@ pub mod State
 pub mod Steady
 pub mod Effects
 pub mod Keeping
-pub mod Waking
 pub mod Calls
 pub mod Entering
 pub mod Acceptance
@@ -11,3 +10,4 @@ pub mod Applying
 pub mod Counts
 pub mod Carrying
 pub mod Delivering
+pub mod Stats

@@ -12,7 +12,7 @@ use std::test::Fail;
 
 const TICK: &[u8] = b"\x01\0\0\0\0\0\0\0\0\x01";
 
-const TOPIC: &[u8] = b"\x01\0\0\0\0\0\0\0\0\x02\0\0\0\x15projects/p/topics/abc\0\0\0\0\0";
+pub const TOPIC: &[u8] = b"\x01\0\0\0\0\0\0\0\0\x02\0\0\0\x15projects/p/topics/abc\0\0\0\0\0";
 
 /// With one label.
 const LABELLED_TOPIC: &[u8] = b"\x01\0\0\0\0\0\0\0\0\x02\0\0\0\x15projects/p/topics/abc\
@@ -24,7 +24,7 @@ const SUBSCRIPTION: &[u8] = b"\x01\0\0\0\0\0\0\0\0\x05\0\0\0\x1cprojects/p/subsc
     \0\0\0\0\0\0\0";
 
 /// Two messages with the payload `a`.
-const PUBLISH: &[u8] = b"\x01\0\0\0\0\0\0\0\0\x0c\0\0\0\x15projects/p/topics/abc\0\0\0\x02\
+pub const PUBLISH: &[u8] = b"\x01\0\0\0\0\0\0\0\0\x0c\0\0\0\x15projects/p/topics/abc\0\0\0\x02\
     \0\0\0\x01a\0\0\0\0\0\0\0\0\0\0\0\x01a\0\0\0\0\0\0\0\0";
 
 /// Of 10 messages.
@@ -40,7 +40,7 @@ const EMPTY_PULL: &[u8] = b"\x01\0\0\0\0\0\0\0\0\x0d\0\0\0\x1cprojects/p/subscri
     \0\0\0\0\0\0\0\0\0\x98\x96\x80\0";
 
 /// Of message 1 by lease 1.
-const ACKNOWLEDGE: &[u8] = b"\x01\0\0\0\0\0\0\0\0\x0e\0\0\0\x1cprojects/p/subscriptions/sub\
+pub const ACKNOWLEDGE: &[u8] = b"\x01\0\0\0\0\0\0\0\0\x0e\0\0\0\x1cprojects/p/subscriptions/sub\
     \0\0\0\x01\0\0\0\0\0\0\0\x01\0\0\0\0\0\0\0\x01\0\0\0\0\0\0\0\x01";
 
 /// One message with the payload `hi`.
@@ -65,7 +65,7 @@ const EMPTY_ACKNOWLEDGE: &[u8] =
 
 /// What a call comes to.
 #[derive(Clone, Copy)]
-struct Told {
+pub struct Told {
     code: u16,
     /// The number of the first message published, or how many messages went out.
     first: u64,
@@ -152,7 +152,7 @@ fn judged(
 }
 
 /// Gives the command of a row to one core, and what that records to the other one.
-fn call(
+pub fn call(
     core: &mut Core,
     copy: &mut Core,
     alloc: Global,
@@ -170,10 +170,15 @@ fn call(
 }
 
 /// A call at a moment, its code and numbers, the moment of what is recorded, and how many entries there are then.
-type Step = (u64, &'static [u8], u16, u64, u64, u64, u64);
+pub type Step = (u64, &'static [u8], u16, u64, u64, u64, u64);
 
 /// Whether a call is told and recorded so, and the other core has as many entries.
-fn is_so(core: &mut Core, copy: &mut Core, alloc: Global, step: Step) -> Result<bool, OutOfMemory> {
+pub fn is_so(
+    core: &mut Core,
+    copy: &mut Core,
+    alloc: Global,
+    step: Step,
+) -> Result<bool, OutOfMemory> {
     let (now, row, code, first, second, recorded, entries) = step;
     let Some(told) = call(core, copy, alloc, now, row)? else {
         return Ok(false);
@@ -184,7 +189,7 @@ fn is_so(core: &mut Core, copy: &mut Core, alloc: Global, step: Step) -> Result<
 }
 
 /// A topic, its subscription, a message and a lease of it.
-const LEASED: [Step; 4] = [
+pub const LEASED: [Step; 4] = [
     (1000, TOPIC, 200, 0, 0, 1000, 1),
     (1000, SUBSCRIPTION, 200, 0, 0, 1000, 2),
     (1000, PUBLISH_HI, 200, 1, 1, 1000, 3),
@@ -286,6 +291,32 @@ fn no_log_begins_with_a_tick(rt: HostRuntime) -> Result<(), Fail> {
     Ok(())
 }
 
+#[test]
+fn a_lease_is_due_at_its_deadline(rt: HostRuntime) -> Result<(), Fail> {
+    let alloc = rt.alloc();
+    let mut core = Core::fresh(alloc)?;
+    let mut copy = Core::fresh(alloc)?;
+    assert_eq!(rt; core.is_due(u64::MAX), false);
+    for step in LEASED {
+        assert!(rt; is_so(&mut core, &mut copy, alloc, step)?);
+    }
+    for (now, due) in [(0, false), (11999, false), (12000, true), (u64::MAX, true)] {
+        assert_eq!(rt; core.is_due(now), due, "{now}");
+        assert_eq!(rt; copy.is_due(now), due, "{now}");
+    }
+    let tick = (12000, TICK, 200, 0, 0, 12000, 5);
+    assert!(rt; is_so(&mut core, &mut copy, alloc, tick)?);
+    assert_eq!(rt; core.is_due(12000), false);
+    assert_eq!(rt; core.is_due(u64::MAX), false);
+    // The moment never goes back, so the lease ends at 22000.
+    let pull = (3000, PULL_ONE, 200, 1, 2, 12000, 6);
+    assert!(rt; is_so(&mut core, &mut copy, alloc, pull)?);
+    for (now, due) in [(3000, false), (13000, false), (21999, false), (22000, true)] {
+        assert_eq!(rt; core.is_due(now), due, "{now}");
+    }
+    Ok(())
+}
+
 /// The next number of a fixed recurrence.
 fn following(number: u64) -> u64 {
     number
@@ -327,6 +358,7 @@ fn mixed_calls_are_replayed(rt: HostRuntime) -> Result<(), Fail> {
         assert_eq!(rt; copy.count(), core.count());
     }
     assert_eq!(rt; core.count() > 1000, true);
+    assert!(rt; copy.stat() == core.stat());
     // Both go on alike.
     let mut other = Core::fresh(alloc)?;
     for row in [PULL, PUBLISH, WIDE_PULL, ACKNOWLEDGE, TICK] {

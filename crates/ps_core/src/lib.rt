@@ -9,8 +9,12 @@ mod laws;
 mod machine;
 mod messages;
 mod places;
+#[cfg(test)]
+mod publish_tests;
 mod service;
 mod share;
+#[cfg(test)]
+mod stat_tests;
 mod tables;
 
 pub use laws::{law_accepted, law_count, law_history};

@@ -5,8 +5,10 @@ ghost use Rattle.ps_model.specs.Step as rules;
 
 mod applying;
 mod carried;
+mod counting;
 mod creating;
 mod delivering;
+mod due;
 mod judging;
 mod publishing;
 mod settling;

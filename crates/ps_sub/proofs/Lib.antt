@@ -7,3 +7,4 @@ pub mod CountLemmas
 pub mod ExpungeLemmas
 pub mod DueLemmas
 pub mod LendLemmas
+pub mod DeadlineLemmas

@@ -1,7 +1,8 @@
 -- What is read of a subscription without a change.
-use Rattle.std.specs.Prelude.{ℕ, ◌+◌, Bool, nat_eq, List, map, filter, if◌then◌else◌}
-use Rattle.std.specs.List.{list_any}
+use Rattle.std.specs.Prelude.{ℕ, ◌+◌, min, Bool, nat_eq, List, Option, Some, None, map, filter, filter_map, if◌then◌else◌}
+use Rattle.std.specs.List.{list_any, reduce}
 use Rattle.ps_model.specs.declared.mark.Mark.{Mark}
+use Rattle.ps_model.specs.declared.mark.Mark.TheVariants.{Backlog, Leased, Ahead, Done, Gone}
 use Rattle.ps_model.specs.declared.mark.Slot.{Slot}
 use Rattle.ps_model.specs.Slots.{is_unacked}
 use Rattle.ps_sub.specs.declared.outcome.SubCounts.{SubCounts}
@@ -22,6 +23,18 @@ marks slots = map number_and_mark slots
 
 abbrev pub has : List Slot → ℕ → Bool
 has slots number = list_any (λ s. nat_eq s.item.number number) slots
+
+-- when the lease of the mark ends
+abbrev pub deadline_of : Mark → Option ℕ
+deadline_of (Leased failures lease deadline) = Some deadline
+deadline_of (Backlog failures until last) = None
+deadline_of (Ahead failures) = None
+deadline_of (Done cause) = None
+deadline_of (Gone cause) = None
+
+-- the least deadline of those that are out
+abbrev pub first_deadline : List Slot → Option ℕ
+first_deadline slots = reduce min (filter_map (λ s. deadline_of s.mark) slots)
 
 abbrev pub one_if : Bool → ℕ
 one_if b = if b then 1 else 0

@@ -2,7 +2,7 @@ ghost use Rattle.std.specs.Prelude.{◌≡◌, ◌+◌, ◌<◌, ◌^◌, IfOk, 
 ghost use Rattle.ps_model.specs.Counting.{is_acknowledged, is_dead_lettered};
 ghost use Rattle.ps_model.specs.Lists.{tally};
 ghost use Rattle.ps_model.specs.Slots.{is_backlog, is_leased};
-ghost use Rattle.ps_sub.specs.Showing.{number_of, number_and_mark, unacknowledged, marks, one_if, total_of};
+ghost use Rattle.ps_sub.specs.Showing.{number_of, number_and_mark, unacknowledged, marks, deadline_of, first_deadline, one_if, total_of};
 ghost use Rattle.ps_sub.specs.Steady.{IsLive};
 
 use crate::outcome::SubCounts;
@@ -44,6 +44,22 @@ pub fn marks(alloc: Global, slots: &[Slot]) -> Result<Vec<(u64, Mark)>, OutOfMem
         .map(|slot| number_and_mark(slot))
         .collect(alloc)?;
     Ok(shown)
+}
+
+fn deadline_of(slot: &Slot) -> Option<u64>
+    ensures { result ≡ deadline_of slot.now.mark }
+{
+    match slot.mark {
+        Mark::Leased { deadline, .. } => Some(deadline),
+        _ => None,
+    }
+}
+
+/// The least deadline of the messages that are out.
+pub fn first_deadline(slots: &[Slot]) -> Option<u64>
+    ensures { result ≡ first_deadline slots.now }
+{
+    slots.iter().filter_map(|slot| deadline_of(slot)).min()
 }
 
 /// One message more.

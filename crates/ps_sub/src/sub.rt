@@ -1,5 +1,6 @@
-ghost use Rattle.std.specs.Prelude.{◌≡◌, ◌≢◌, ◌↔◌, ◌+◌, ◌*◌, ◌^◌, ◌<◌, ◌≤◌, ◌++◌, ◌∷◌, [], Bool, true, false, IsTrue, IfOk, OnOk, None, length};
-ghost use Rattle.std.specs.List.{AllByRecursion};
+ghost use Rattle.std.specs.Prelude.{◌≡◌, ◌≢◌, ◌↔◌, ◌+◌, ◌*◌, ◌^◌, ◌<◌, ◌≤◌, ◌++◌, ◌∷◌, [], Bool, true, false, IsTrue, IfOk, OnOk, None, length, nat_le, ℕ};
+ghost use Rattle.std.specs.List.{AllByRecursion, list_any};
+ghost use Rattle.std.specs.Option.{option_map_or};
 ghost use Rattle.ps_base.specs.Moments.{last_moment};
 ghost use Rattle.ps_model.specs.Acknowledging.{acknowledge as acknowledged, invalid, unordered};
 ghost use Rattle.ps_model.specs.Checks.{new_sub_fault};
@@ -12,7 +13,7 @@ ghost use Rattle.ps_model.specs.Slots.{is_backlog, is_leased};
 ghost use Rattle.ps_sub.specs.Entering.{EndsBy, WasLent, IsInOrder};
 ghost use Rattle.ps_sub.specs.Expunging.{settled};
 ghost use Rattle.ps_sub.specs.Marks.{live};
-ghost use Rattle.ps_sub.specs.Showing.{unacknowledged, marks, has, total_of};
+ghost use Rattle.ps_sub.specs.Showing.{unacknowledged, marks, first_deadline, has, total_of};
 
 use crate::choose::choose;
 use crate::lend::lend;
@@ -225,6 +226,14 @@ impl Sub {
         ensures due { result ≡ true → (forward : Bool) → settled now forward self.now.config holds.now self.now.slots ≢ self.now.slots }
     {
         retention::any_moved(now, &self.config, holds, self.slots.as_slice())
+    }
+
+    /// When the first lease ends, or ended where it hasn't failed yet. None where no message is out.
+    pub fn first_deadline(&self) -> Option<u64>
+        ensures value { result ≡ first_deadline self.now.slots }
+        ensures due { (t : ℕ) → list_any (is_due t) self.now.slots ≡ option_map_or (λ deadline. nat_le deadline t) result false }
+    {
+        showing::first_deadline(self.slots.as_slice())
     }
 
     /// The number of the next lease.

@@ -1,15 +1,14 @@
 ghost use Rattle.std.specs.Prelude.{◌≡◌, ◌<◌, ◌≤◌, ◌||◌, ℕ, min, false, map, IfOk, OnOk};
 ghost use Rattle.std.specs.List.{list_any};
 ghost use Rattle.ps_base.specs.Moments.{last_moment};
-ghost use Rattle.ps_model.specs.Failing.{is_due, is_over};
+ghost use Rattle.ps_model.specs.Failing.{is_due};
 ghost use Rattle.ps_core.specs.Effects.{settle_share};
-ghost use Rattle.ps_core.specs.Waking.{end_after, first_end};
 
 use crate::service::Core;
+use crate::service::due::{first_end, is_due};
 use crate::share::Share;
 use crate::tables::Tables;
 use ps_base::OutOfMemory;
-use ps_model::Mark;
 use std::alloc::Global;
 
 /// What settling found: whether a lease was over, and a moment before which none of the others is.
@@ -67,13 +66,12 @@ fn settle_one(alloc: Global, t: u64, share: &mut Share) -> Result<Settled, OutOf
     ensures moved { IfOk result (λ settled. settled.moved ≡ list_any (is_due t) share.old.sub.slots) }
     ensures wake { IfOk result (λ settled. (u : ℕ) → u < settled.wake → list_any (is_due u) share.new.sub.slots ≡ false) }
 {
-    let marks = share.sub.marks(alloc)?;
-    let wake = first_end(t, marks.as_slice());
-    if !is_any_over(t, marks.as_slice()) {
-        return Ok(Settled { moved: false, wake });
-    }
+    let moved = is_due(t, share);
     share.sub.settle(alloc, t, false)?;
-    Ok(Settled { moved: true, wake })
+    Ok(Settled {
+        moved,
+        wake: first_end(share),
+    })
 }
 
 /// What was found in two places.
@@ -85,41 +83,4 @@ fn both(a: Settled, b: Settled) -> Settled
         moved: a.moved || b.moved,
         wake: a.wake.min(b.wake),
     }
-}
-
-fn is_any_over(t: u64, marks: &[(u64, Mark)]) -> bool
-    ensures { result ≡ list_any (λ p. is_over t p.1) marks.now }
-{
-    marks.iter().any(|entry| is_over(t, entry.1))
-}
-
-/// Whether the mark is a lease that is over.
-fn is_over(t: u64, mark: Mark) -> bool
-    ensures { result ≡ is_over t mark }
-{
-    match mark {
-        Mark::Leased { deadline, .. } => deadline <= t,
-        _ => false,
-    }
-}
-
-/// When the lease ends, where it isn't over at t. Another mark never ends.
-fn end_after(t: u64, mark: Mark) -> u64
-    ensures { result ≡ end_after t mark }
-{
-    match mark {
-        Mark::Leased { deadline, .. } if deadline > t => deadline,
-        _ => u64::MAX,
-    }
-}
-
-/// When the first lease ends that isn't over at t.
-fn first_end(t: u64, marks: &[(u64, Mark)]) -> u64
-    ensures { result ≡ first_end t marks.now }
-{
-    let mut first = u64::MAX;
-    for entry in marks {
-        first = first.min(end_after(t, entry.1));
-    }
-    first
 }

@@ -1,0 +1,17 @@
+-- The ten numbers that the service is told by. What is proved of a core bounds no sum over its subscriptions, so a sum
+-- that is beyond a u64 is told as the greatest one.
+use Rattle.std.specs.Prelude.{ℕ, min, ◌-◌, ◌^◌}
+use Rattle.ps_model.specs.declared.stat.Stat.{Stat}
+use Rattle.ps_model.specs.declared.world.World.{World}
+use Rattle.ps_model.specs.Counting.{stat}
+
+abbrev pub capped : ℕ → ℕ
+capped n = min n (2 ^ 64 - 1)
+
+abbrev pub told_stat : World → Stat
+told_stat w = record (stat w) {
+  backlog = capped (stat w).backlog;
+  leased = capped (stat w).leased;
+  acknowledged = capped (stat w).acknowledged;
+  dead_lettered = capped (stat w).dead_lettered;
+}

@@ -1,0 +1,83 @@
+ghost use Rattle.std.specs.Prelude.{◌≡◌, ◌+◌};
+ghost use Rattle.ps_model.specs.Counting.{is_acknowledged, is_dead_lettered};
+ghost use Rattle.ps_model.specs.Lists.{tally};
+ghost use Rattle.ps_model.specs.Slots.{is_backlog, is_leased};
+ghost use Rattle.ps_core.specs.State.{flat_marks};
+ghost use Rattle.ps_core.specs.Stats.{capped};
+
+use crate::service::Core;
+use crate::share::Share;
+use ps_model::{MessageRow, Stat};
+use ps_sub::SubCounts;
+
+impl Core {
+    ghost use Rattle.ps_core.specs.State.{seen};
+    ghost use Rattle.ps_core.specs.Stats.{told_stat};
+
+    /// The ten numbers that the service is told by, of the world as it stands: nothing settles. A sum that is
+    /// beyond u64 is told as the greatest u64. Takes no memory.
+    pub fn stat(&self) -> Stat
+        ensures { result ≡ told_stat (seen self.now) }
+    {
+        let marks = marks_of_all(self.tables.shares.as_slice());
+        Stat {
+            entries: self.count,
+            now: self.clock,
+            topics: self.tables.topics.len() as u64,
+            subscriptions: self.tables.shares.len() as u64,
+            snapshots: 0,
+            messages: kept_messages(self.tables.messages.as_slice()),
+            backlog: marks.backlog,
+            leased: marks.leased,
+            acknowledged: marks.acknowledged,
+            dead_lettered: marks.dead,
+        }
+    }
+}
+
+/// How many messages something still wants.
+fn kept_messages(messages: &[MessageRow]) -> u64
+    ensures { result ≡ tally (λ r. r.kept) messages.now }
+{
+    let mut kept = 0;
+    for row in messages {
+        if row.kept {
+            kept += 1;
+        }
+    }
+    kept
+}
+
+/// How many marks of all subscriptions stand where.
+fn marks_of_all(shares: &[Share]) -> SubCounts
+    ensures backlog { result.backlog ≡ capped (tally (λ r. is_backlog r.mark) (flat_marks shares.now)) }
+    ensures leased { result.leased ≡ capped (tally (λ r. is_leased r.mark) (flat_marks shares.now)) }
+    ensures acknowledged { result.acknowledged ≡ capped (tally (λ r. is_acknowledged r.mark) (flat_marks shares.now)) }
+    ensures dead { result.dead ≡ capped (tally (λ r. is_dead_lettered r.mark) (flat_marks shares.now)) }
+{
+    let mut all = SubCounts {
+        backlog: 0,
+        leased: 0,
+        acknowledged: 0,
+        dead: 0,
+    };
+    for share in shares {
+        all = both(all, share.sub.counts());
+    }
+    all
+}
+
+/// What was counted in two places.
+fn both(a: SubCounts, b: SubCounts) -> SubCounts
+    ensures backlog { result.backlog ≡ capped (a.backlog + b.backlog) }
+    ensures leased { result.leased ≡ capped (a.leased + b.leased) }
+    ensures acknowledged { result.acknowledged ≡ capped (a.acknowledged + b.acknowledged) }
+    ensures dead { result.dead ≡ capped (a.dead + b.dead) }
+{
+    SubCounts {
+        backlog: a.backlog.saturating_add(b.backlog),
+        leased: a.leased.saturating_add(b.leased),
+        acknowledged: a.acknowledged.saturating_add(b.acknowledged),
+        dead: a.dead.saturating_add(b.dead),
+    }
+}
