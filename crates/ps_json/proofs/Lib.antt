@@ -1,4 +1,12 @@
-pub mod BodyLemmas
+pub mod AckIdLemmas
+pub mod CheckLemmas
+pub mod DateLemmas
+pub mod DeliveryLemmas
 pub mod FieldLemmas
+pub mod KindLemmas
 pub mod LineLemmas
+pub mod MessageLemmas
+pub mod PublishingLemmas
 pub mod ReplyLemmas
+pub mod TimeLemmas
+pub mod ValueLemmas

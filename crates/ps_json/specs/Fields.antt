@@ -1,8 +1,26 @@
 -- The fields of a JSON object.
-use Rattle.std.specs.Prelude.{ℕ, List, Bool, true, false, ◌&&◌, not, length, nat_lt, if◌then◌else◌, Option, Some, None, option_and_then}
+use Rattle.std.specs.Prelude.{ℕ, List, [], ◌∷◌, Bool, true, false, ◌&&◌, not, length, nat_lt, if◌then◌else◌, Option, Some, None, option_and_then}
 use Rattle.std.specs.Str.{bytes_eq}
 use Rattle.serde_json.specs.Data.{Num, unsigned, negative, float, Data, null, boolean, number, string, array, object, Items, no_items, item, Members, no_members, member}
 use Rattle.serde_json.specs.Find.{get_member, as_number, as_str, as_u64}
+
+-- the fields as a list of names and values, in the order in which they stand
+abbrev pub pairs_of : Members → List (List ℕ × Data)
+pairs_of no_members = []
+pairs_of (member k d ms) = (k, d) ∷ pairs_of ms
+
+-- the items of a list
+abbrev pub values_of : Items → List Data
+values_of no_items = []
+values_of (item d ds) = d ∷ values_of ds
+
+abbrev pub is_null : Data → Bool
+is_null null = true
+is_null (boolean b) = false
+is_null (number n) = false
+is_null (string s) = false
+is_null (array ds) = false
+is_null (object ms) = false
 
 -- each name passes
 abbrev pub all_names : (List ℕ → Bool) → Members → Bool
@@ -47,7 +65,7 @@ is_filled (string s) = nat_lt 0 (length s)
 is_filled (array ds) = has_items ds
 is_filled (object ms) = has_members ms
 
--- the least name in byte order, in which members stand, but for the one given, whose field is filled
-abbrev pub first_filled : List ℕ → Members → Option (List ℕ)
-first_filled name no_members = None
-first_filled name (member k d ms) = if not (bytes_eq k name) && is_filled d then Some k else first_filled name ms
+-- the least name in byte order, in which members stand, whose field is filled and isn't built
+abbrev pub first_filled : (List ℕ → Bool) → Members → Option (List ℕ)
+first_filled is_built no_members = None
+first_filled is_built (member k d ms) = if not (is_built k) && is_filled d then Some k else first_filled is_built ms

@@ -4,7 +4,9 @@ ghost use Rattle.serde_json.specs.Find.{get_member};
 ghost use Rattle.serde_json.specs.View.{view, members_view};
 ghost use Rattle.ps_json.specs.Fields.{without, whole_field, text_field};
 ghost use Rattle.ps_json.specs.Fields as spec;
+ghost use Rattle.ps_json.specs.Tables.{is_built};
 
+use crate::call::CallKind;
 use serde_json::{Map, Value};
 
 /// The field's value.
@@ -61,13 +63,13 @@ pub fn is_filled(value: &Value) -> bool
     }
 }
 
-/// The least name, but for the one given, whose field is filled.
-pub fn first_filled<'a>(fields: &'a Map<String, Value>, name: &str) -> Option<&'a str>
+/// The least name whose field is filled and isn't built for the call.
+pub fn first_filled<'a>(call: CallKind, fields: &'a Map<String, Value>) -> Option<&'a str>
     ensures { option_map (λ t. t.now) result
-        ≡ spec.first_filled name.now (members_view fields.now.entries) }
+        ≡ spec.first_filled (is_built call) (members_view fields.now.entries) }
 {
     for (key, value) in fields.iter() {
-        if key.as_str() != name && is_filled(value) {
+        if !call.is_built(key.as_str()) && is_filled(value) {
             return Some(key.as_str());
         }
     }

@@ -1,14 +1,23 @@
-//! Calls and replies as JSON: the fields of a line, the checks on a body, and the lines that answer.
+//! Calls and replies as JSON: the fields of a line, what a call's body asks, and the lines that answer.
 #![tactic(auto)]
 
 mod batch_line;
-mod body;
+mod bodies;
+mod call;
 mod fields;
+mod kinds;
+mod paths;
+mod print;
+mod read_error;
 mod reply;
+mod tables;
 
 pub use batch_line::{BatchLine, read_batch_line};
-pub use body::create_topic;
-pub use reply::{no_line, print_reply, refusal_line, topic_line};
+pub use call::{CallKind, command};
+pub use read_error::ReadError;
+pub use reply::{code, no_line, print_reply, refusal_line, value};
 
 #[cfg(test)]
-mod tests;
+mod command_tests;
+#[cfg(test)]
+mod reply_tests;

@@ -1,56 +1,79 @@
 // The line that answers a call.
-ghost use Rattle.std.specs.Prelude.{◌≡◌, ◌++◌, codes, false, IfOk};
-ghost use Rattle.json.specs.Print.{quoted};
+ghost use Rattle.std.specs.Prelude.{◌≡◌, false, IfOk};
 ghost use Rattle.serde_json.specs.View.{view};
 ghost use Rattle.serde_json.specs.Written.{has_float};
-ghost use Rattle.ps_json.specs.Replies.{line_text, reply_data, error_data, error_text, topic_data, no_line_text, refusal_text, reply_text};
+ghost use Rattle.ps_json.specs.Replies.{body_of, code_of, line_text, reply_data, no_line_text, refusal_text, reply_text};
 
+use crate::print::Shown;
+use crate::print::error::{acked, acked_code, error_value, refused};
+use crate::print::message::{published, received};
+use crate::print::page::page;
 use ps_base::{Octets, OutOfMemory, Refusal};
 use ps_model::Reply;
 use serde_json::{Map, Value, json};
 use std::alloc::{AllocError, Global};
 
+/// The body that tells a reply.
+#[tactic(auto, unfolding(crate::specs::Replies::body_of))]
+pub fn value(alloc: Global, reply: &Reply) -> Result<Value, OutOfMemory>
+    ensures { IfOk result (λ value. view value ≡ body_of reply.now) }
+{
+    match reply {
+        Reply::Empty => Ok(Value::Object(Map::new(alloc))),
+        Reply::Topic(topic) => topic.to_value(alloc),
+        Reply::Subscription(sub) => sub.to_value(alloc),
+        Reply::Snapshot(snap) => snap.to_value(alloc),
+        Reply::Page { items, next } => page(alloc, items, next),
+        Reply::Published { first, number } => published(alloc, *first, *number),
+        Reply::Received { items, .. } => received(alloc, items.as_slice()),
+        Reply::Acked {
+            invalid,
+            unordered,
+            ..
+        } => acked(alloc, invalid.as_slice(), unordered.as_slice()),
+        Reply::Modified { invalid, .. } => acked(alloc, invalid.as_slice(), &[]),
+        Reply::Refused(refusal) => refused(alloc, refusal),
+    }
+}
+
+/// The code of a reply: 200, a refusal's own, or 400 where ack ids did nothing.
+pub fn code(reply: &Reply) -> u16
+    ensures { result ≡ code_of reply.now }
+{
+    match reply {
+        Reply::Refused(refusal) => refusal.code(),
+        Reply::Acked {
+            invalid,
+            unordered,
+            ..
+        } => acked_code(invalid.as_slice(), unordered.as_slice()),
+        Reply::Modified { invalid, .. } => acked_code(invalid.as_slice(), &[]),
+        _ => 200,
+    }
+}
+
 /// The line, with its line feed, that tells a reply.
 pub fn print_reply(alloc: Global, reply: &Reply) -> Result<Octets, OutOfMemory>
     ensures { IfOk result (λ text. text ≡ reply_text reply.now) }
 {
-    match reply {
-        Reply::Topic(topic) => topic_line(alloc, topic.name.as_str()),
-        Reply::Refused(refusal) => refusal_line(alloc, refusal),
-        _ => reply_line(alloc, 200, Value::Object(Map::new(alloc))),
-    }
+    let body = value(alloc, reply)?;
+    reply_line(alloc, code(reply), body)
 }
 
 /// The line that tells a refusal.
 pub fn refusal_line(alloc: Global, refusal: &Refusal) -> Result<Octets, OutOfMemory>
     ensures { IfOk result (λ text. text ≡ refusal_text refusal.now) }
 {
-    let message = refusal.message(alloc)?;
-    error_line(alloc, refusal.code(), message.as_str(), refusal.status())
+    let body = refused(alloc, refusal)?;
+    reply_line(alloc, refusal.code(), body)
 }
 
 /// The line that refuses bytes that are no line of a batch.
 pub fn no_line(alloc: Global) -> Result<Octets, OutOfMemory>
     ensures { IfOk result (λ text. text ≡ no_line_text) }
 {
-    error_line(alloc, 400, "line", "INVALID_ARGUMENT")
-}
-
-/// The line that shows a topic.
-pub fn topic_line(alloc: Global, name: &str) -> Result<Octets, OutOfMemory>
-    ensures reply { IfOk result (λ text. text ≡ line_text (reply_data 200 (topic_data name.now))) }
-    ensures bytes { IfOk result (λ text. text
-        ≡ codes "{\"body\":{\"name\":" ++ quoted name.now ++ codes "},\"code\":200}\n") }
-{
-    let body = topic_value(alloc, name)?;
-    reply_line(alloc, 200, body)
-}
-
-fn error_line(alloc: Global, code: u16, message: &str, status: &str) -> Result<Octets, OutOfMemory>
-    ensures { IfOk result (λ text. text ≡ error_text code message.now status.now) }
-{
-    let body = error_value(alloc, code, message, status)?;
-    reply_line(alloc, code, body)
+    let body = error_value(alloc, 400, "line", "INVALID_ARGUMENT")?;
+    reply_line(alloc, 400, body)
 }
 
 fn reply_line(alloc: Global, code: u16, body: Value) -> Result<Octets, OutOfMemory>
@@ -75,16 +98,4 @@ fn reply_value(alloc: Global, code: u16, body: Value) -> Result<Value, AllocErro
     ensures { IfOk result (λ value. view value ≡ reply_data code (view body)) }
 {
     json!(in alloc; {"body": body, "code": code})
-}
-
-fn topic_value(alloc: Global, name: &str) -> Result<Value, AllocError>
-    ensures { IfOk result (λ value. view value ≡ topic_data name.now) }
-{
-    json!(in alloc; {"name": name})
-}
-
-fn error_value(alloc: Global, code: u16, message: &str, status: &str) -> Result<Value, AllocError>
-    ensures { IfOk result (λ value. view value ≡ error_data code message.now status.now) }
-{
-    json!(in alloc; {"error": {"code": code, "message": message, "status": status}})
 }

@@ -4,5 +4,7 @@ pub mod FeedLemmas
 pub mod FileLemmas
 pub mod Inputs
 pub mod Leads
+pub mod LineLemmas
+pub mod ReportLemmas
 pub mod Runs
 pub mod StatusLemmas

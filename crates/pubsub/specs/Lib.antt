@@ -3,9 +3,11 @@ pub mod Fates
 pub mod FaultTexts
 pub mod Leading
 pub mod Lines
+pub mod Numbers
 pub mod Pending
 pub mod Reading
-pub mod Route
+pub mod Reporting
 pub mod Service
 pub mod Serving
 pub mod Statuses
+pub mod Words

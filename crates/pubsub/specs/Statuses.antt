@@ -1,7 +1,6 @@
--- The words of the command line, and how the program ends.
-use Rattle.std.specs.Prelude.{◌≡◌, ◌⊎◌, ℕ, List, [], ◌∷◌, ◌++◌, take, Option, Some, None, option_map, ◌&&◌, not, nat_eq, length, if◌then◌else◌, codes}
+-- How the program ends.
+use Rattle.std.specs.Prelude.{◌≡◌, ◌⊎◌, ℕ, List, [], ◌++◌, take, Option, option_map, codes}
 use Rattle.std.specs.Fmt.{decimal}
-use Rattle.std.specs.Str.{bytes_eq}
 use Rattle.ps_keeper.specs.Cause.{Rose}
 use Rattle.ps_book.specs.declared.error.CallError.{CallError}
 use Rattle.ps_book.specs.declared.error.CallError.TheVariants as call
@@ -9,13 +8,6 @@ use Rattle.pubsub.specs.declared.batch.End.{End}
 use Rattle.pubsub.specs.declared.batch.End.TheVariants as end
 use Rattle.pubsub.specs.declared.status.Status.{Status}
 use Rattle.pubsub.specs.declared.status.Status.TheVariants.{Done, Usage, ReadFault, WriteFault, StoreFault, BadRow, OutOfMemory, TooLong}
-
--- the file of the words `batch FILE`, where they are these
-abbrev pub file_named : List (List ℕ) → Option (List ℕ)
-file_named [] = None
-file_named (verb ∷ []) = None
-file_named (verb ∷ file ∷ []) = if bytes_eq verb (codes "batch") && not (nat_eq (length file) 0) then Some file else None
-file_named (verb ∷ file ∷ more ∷ words) = None
 
 abbrev pub code_of : Status → ℕ
 code_of Done = 0

@@ -103,7 +103,7 @@ fn a_line_is_a_call(rt: HostRuntime) -> Result<(), Fail> {
 }
 
 #[test]
-fn a_path_names_the_one_route(rt: HostRuntime) -> Result<(), Fail> {
+fn a_path_names_a_call(rt: HostRuntime) -> Result<(), Fail> {
     let alloc = rt.alloc();
     let cases = [
         ("/v1/projects/p/topics/a%62c", 501, "route"),

@@ -1,13 +1,14 @@
 // A line of a batch: the call that it asks, or the line that refuses it.
-ghost use Rattle.std.specs.Prelude.{◌≡◌, IfOk};
-ghost use Rattle.pubsub.specs.Reading.{asked_by, reading_of, reading_at};
+ghost use Rattle.std.specs.Prelude.{◌≡◌, ℕ, Err, IfOk};
+ghost use Rattle.ps_rest.specs.Calls.{asked_by};
+ghost use Rattle.pubsub.specs.Reading.{reading_of, reading_at};
 ghost use Rattle.ps_json.specs.Shown.{shown};
 
 use crate::protocol::Reading;
-use crate::route::topic_of;
-use ps_base::{OutOfMemory, Refusal, Text};
-use ps_json::{BatchLine, create_topic, no_line, read_batch_line, refusal_line};
+use ps_base::{OutOfMemory, Refusal};
+use ps_json::{BatchLine, ReadError, no_line, read_batch_line, refusal_line};
 use ps_model::Command;
+use ps_rest::command_for;
 use std::alloc::Global;
 
 /// What these bytes, a line without its line feed, ask.
@@ -23,24 +24,24 @@ pub fn read_line(alloc: Global, bytes: &[u8]) -> Result<Reading<Command>, OutOfM
 }
 
 fn read_call(alloc: Global, line: &BatchLine) -> Result<Reading<Command>, OutOfMemory>
-    ensures { IfOk result (λ reading. reading ≡ reading_at line.now.at (asked_by (shown line.now))) }
+    ensures { IfOk result (λ reading. reading
+        ≡ reading_at (shown line.now).at
+        (asked_by (shown line.now).verb (shown line.now).path (shown line.now).body)) }
 {
-    match ask(alloc, line)? {
+    match command_for(alloc, line.verb.as_str(), line.path.as_str(), &line.body) {
         Ok(command) => Ok(Reading::Call {
             now: line.at,
             command,
         }),
-        Err(refusal) => Ok(Reading::Refused {
-            text: refusal_line(alloc, &refusal)?,
-        }),
+        Err(ReadError::Refused(refusal)) => refuse(alloc, &refusal),
+        Err(ReadError::OutOfMemory) => Err(OutOfMemory),
     }
 }
 
-fn ask(alloc: Global, line: &BatchLine) -> Result<Result<Command, Refusal>, OutOfMemory>
-    ensures { IfOk result (λ asked. asked ≡ asked_by (shown line.now)) }
+fn refuse(alloc: Global, refusal: &Refusal) -> Result<Reading<Command>, OutOfMemory>
+    ensures { IfOk result (λ reading. (now : ℕ) → reading ≡ reading_at now (Err refusal.now)) }
 {
-    match topic_of(alloc, line.verb.as_str(), line.path.as_str())? {
-        Some(name) => create_topic(alloc, name, &line.body),
-        None => Ok(Err(Refusal::Unimplemented(Text::from_str(alloc, "route")?))),
-    }
+    Ok(Reading::Refused {
+        text: refusal_line(alloc, refusal)?,
+    })
 }

@@ -5,19 +5,27 @@ mod batch;
 #[cfg(test)]
 mod front_tests;
 mod line;
+mod numbers;
 mod offline;
 #[cfg(test)]
 mod offline_tests;
 mod pending;
 mod protocol;
-mod route;
+mod report;
+#[cfg(test)]
+mod report_tests;
 mod service;
+#[cfg(test)]
+mod session_tests;
 mod status;
 mod streams;
+#[cfg(test)]
+mod test_runs;
+mod words;
 
 use offline::run_offline;
 use ps_edge::MemoryCabinet;
-use status::{Status, tell};
+use status::{Status, conclude};
 use std::io::ErrorKind;
 use std::process::ExitCode;
 use std::rt::Env;
@@ -36,8 +44,7 @@ fn main(rt: HostRuntime) -> ExitCode {
         Ok(words) => words,
         Err(error) => {
             if error.kind() == ErrorKind::OutOfMemory {
-                tell(&mut faults, Status::OutOfMemory);
-                return ExitCode::from(Status::OutOfMemory.code());
+                return ExitCode::from(conclude(&mut faults, Status::OutOfMemory));
             }
             Vec::new(alloc)
         }

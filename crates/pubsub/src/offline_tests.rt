@@ -1,7 +1,8 @@
 //! Whole runs, against answers that were written by hand from the rules.
 
-use crate::offline::{answer_all, run_offline};
+use crate::offline::answer_all;
 use crate::status::Status;
+use crate::test_runs::{USAGE, expect, expect_words, run, sink, text_of};
 use ps_base::{List, Octets};
 use ps_core::Core;
 use ps_edge::{Cabinet, Failed, Got, MemoryCabinet, MemorySink, MemorySource, Sink, Source};
@@ -32,9 +33,6 @@ const BAD_LINE: &str =
 const TOO_LONG: &str =
     "{\"body\":{\"error\":{\"code\":413,\"message\":\"line\",\"status\":\"TOO_LARGE\"}},\"code\":413}\n";
 
-const USAGE: &str =
-    "usage: pubsub batch FILE | check FILE | stat FILE | compact FILE | load N | serve OPTIONS FILE\n";
-
 /// A last line, which the end of the input ends.
 const BARE_B: &str =
     "{\"at\":1000,\"verb\":\"PUT\",\"path\":\"/v1/projects/p/topics/bbb\",\"body\":null}";
@@ -42,73 +40,6 @@ const BARE_B: &str =
 const TICK_ROW: &[u8] = b"\x01\0\0\0\0\0\0\x03\xe8\x01";
 
 const TOPIC_ROW: &[u8] = b"\x01\0\0\0\0\0\0\x03\xe8\x02\0\0\0\x15projects/p/topics/abc\0\0\0\0\0";
-
-fn text_of(alloc: Global, parts: &[&str]) -> Result<Vec<u8>, Fail> {
-    let mut text = Vec::new(alloc);
-    for part in parts {
-        text.extend_from_slice(part.as_bytes())?;
-    }
-    Ok(text)
-}
-
-fn words_of(alloc: Global, words: &[&str]) -> Result<Vec<String>, Fail> {
-    let mut owned = Vec::new(alloc);
-    for word in words {
-        owned.push(String::from_str(alloc, word)?)?;
-    }
-    Ok(owned)
-}
-
-fn sink(alloc: Global) -> MemorySink {
-    MemorySink::new(alloc, List::new(alloc))
-}
-
-/// Runs these words, with no clause: the tests look at what comes out.
-fn run<I: Source, O: Sink, E: Sink, S: Cabinet>(
-    alloc: Global,
-    words: &[&str],
-    input: &mut I,
-    output: &mut O,
-    faults: &mut E,
-    cabinet: &mut S,
-) -> Result<u8, Fail> {
-    let words = words_of(alloc, words)?;
-    Ok(run_offline(alloc, words.as_slice(), input, output, faults, cabinet))
-}
-
-/// Runs these words over a cabinet, and compares the status, the output and what was told.
-fn expect_words(
-    rt: &impl Abort,
-    alloc: Global,
-    cabinet: &mut MemoryCabinet,
-    words: &[&str],
-    input: &[&str],
-    status: u8,
-    answers: &[&str],
-    told: &str,
-) -> Result<(), Fail> {
-    let bytes = Octets::from_vec(text_of(alloc, input)?);
-    let mut source = MemorySource::new(bytes, List::new(alloc));
-    let mut output = sink(alloc);
-    let mut faults = sink(alloc);
-    let code = run(alloc, words, &mut source, &mut output, &mut faults, cabinet)?;
-    assert_eq!(rt; code, status);
-    assert!(rt; output.bytes() == text_of(alloc, answers)?.as_slice());
-    assert!(rt; faults.bytes() == told.as_bytes());
-    Ok(())
-}
-
-/// The same of a run of `batch FILE` that ends with 0.
-fn expect(
-    rt: &impl Abort,
-    alloc: Global,
-    cabinet: &mut MemoryCabinet,
-    file: &str,
-    input: &[&str],
-    answers: &[&str],
-) -> Result<(), Fail> {
-    expect_words(rt, alloc, cabinet, &["batch", file], input, 0, answers, "")
-}
 
 #[test]
 fn words_decide_what_runs(rt: HostRuntime) -> Result<(), Fail> {
@@ -149,7 +80,7 @@ fn words_decide_what_runs(rt: HostRuntime) -> Result<(), Fail> {
         &rt,
         alloc,
         &mut cabinet,
-        &["check", "-"],
+        &["compact", "-"],
         &[PUT_A],
         2,
         &[],

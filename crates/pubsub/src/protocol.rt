@@ -20,9 +20,15 @@ pub trait Protocol: Machine {
     /// The line that tells a reply, with its line feed.
     ghost reply_text: { Self.Reply → List ℕ };
 
+    /// The lines that tell a machine's numbers.
+    ghost stat_text: { Self → List ℕ };
+
     fn read_line(alloc: Global, line: &[u8]) -> Result<Reading<Self::Command>, base::OutOfMemory>
         ensures { IfOk result (λ reading. reading ≡ reading_of line.now) };
 
     fn print_reply(alloc: Global, reply: &Self::Reply) -> Result<base::Octets, base::OutOfMemory>
         ensures { IfOk result (λ text. text ≡ reply_text reply.now) };
+
+    fn print_stat(&self, alloc: Global) -> Result<base::Octets, base::OutOfMemory>
+        ensures { IfOk result (λ text. text ≡ stat_text self.now) };
 }

@@ -10,7 +10,7 @@ use ps_edge::{Failed, Sink, write_all};
 /// How the program ends.
 #[derive(Clone, Copy, PartialEq, Eq)]
 pub enum Status {
-    /// The input was read to its end, and each line was answered.
+    /// Each line of the input was answered, or the report was written.
     Done,
     /// The words are none that the program knows.
     Usage,
@@ -21,6 +21,13 @@ pub enum Status {
     BadRow { seq: u64 },
     OutOfMemory,
     TooLong,
+}
+
+/// A keeper that comes back from a run, and how the run ended.
+#[derive(Drop)]
+pub struct Ended<K> {
+    pub status: Status,
+    pub keeper: K,
 }
 
 impl Status {
@@ -111,4 +118,13 @@ pub fn tell<E: Sink>(faults: &mut E, status: Status)
     ensures { IsTold (status_text status) (E.holds faults.old) (E.holds faults.new) (E.faults faults.old) (E.faults faults.new) }
 {
     let _ = write_status(faults, status);
+}
+
+/// Tells a status, and gives the exit status of the process.
+pub fn conclude<E: Sink>(faults: &mut E, status: Status) -> u8
+    ensures code { result ≡ code_of status }
+    ensures told { IsTold (status_text status) (E.holds faults.old) (E.holds faults.new) (E.faults faults.old) (E.faults faults.new) }
+{
+    tell(faults, status);
+    status.code()
 }

@@ -1,0 +1,129 @@
+mod creations;
+mod deliveries;
+mod publishes;
+
+use super::*;
+use ps_base::{AckId, Labels, OutOfMemory};
+use ps_message::Message;
+use ps_model::Command;
+use serde_json::Value;
+use std::alloc::Global;
+use std::test::Fail;
+
+const TOPIC: &str = "projects/p/topics/abc";
+
+const SUB: &str = "projects/p/subscriptions/sub";
+
+/// A name outside the grammar of both.
+const NO_NAME: &str = "projects/p/topics/x";
+
+fn labels_told(alloc: Global, labels: &Labels) -> Result<String, OutOfMemory> {
+    let mut told = String::new(alloc);
+    for pair in labels.as_slice() {
+        let one = format!(in alloc; "{}={};", pair.0, pair.1)?;
+        told.push_str(one.as_str())?;
+    }
+    Ok(told)
+}
+
+fn messages_told(alloc: Global, messages: &[Message]) -> Result<String, OutOfMemory> {
+    let mut told = String::new(alloc);
+    for message in messages {
+        let attributes = labels_told(alloc, &message.attributes)?;
+        let payload = message.payload.as_slice();
+        let one = format!(in alloc; " {payload:?} {attributes} {}", message.key.as_str())?;
+        told.push_str(one.as_str())?;
+    }
+    Ok(told)
+}
+
+fn ids_told(alloc: Global, ids: &[AckId]) -> Result<String, OutOfMemory> {
+    let mut told = String::new(alloc);
+    for id in ids {
+        let one = format!(in alloc; " {}/{}/{}", id.sub, id.message, id.lease)?;
+        told.push_str(one.as_str())?;
+    }
+    Ok(told)
+}
+
+/// The fields of a command, as a text.
+fn command_told(alloc: Global, command: &Command) -> Result<String, OutOfMemory> {
+    match command {
+        Command::CreateTopic { topic, config } => {
+            let labels = labels_told(alloc, &config.labels)?;
+            Ok(format!(in alloc; "{} {labels} {:?}", topic.text(), config.retention)?)
+        }
+        Command::CreateSubscription {
+            subscription,
+            topic,
+            config,
+        } => Ok(format!(in alloc;
+            "{} {} {} {} {:?}",
+            subscription.text(),
+            topic.text(),
+            config.ack_seconds,
+            config.retention,
+            config.expiration
+        )?),
+        Command::Publish { topic, messages } => {
+            let messages = messages_told(alloc, messages.as_slice())?;
+            Ok(format!(in alloc; "{}{messages}", topic.text())?)
+        }
+        Command::Pull {
+            subscription,
+            max,
+            budget,
+            seconds,
+        } => Ok(format!(in alloc; "{} {max} {budget} {seconds:?}", subscription.text())?),
+        Command::Acknowledge { subscription, ids } => {
+            let ids = ids_told(alloc, ids.as_slice())?;
+            Ok(format!(in alloc; "{}{ids}", subscription.text())?)
+        }
+        _ => Ok(format!(in alloc; "another")?),
+    }
+}
+
+/// The code and the message of a refusal.
+fn error_told(alloc: Global, error: &ReadError) -> Result<String, OutOfMemory> {
+    match error {
+        ReadError::Refused(refusal) => {
+            let message = refusal.message(alloc)?;
+            Ok(format!(in alloc; "{} {message}", refusal.code())?)
+        }
+        ReadError::OutOfMemory => Err(OutOfMemory),
+    }
+}
+
+/// What a call with this body asks, or how it is refused.
+fn told(alloc: Global, call: CallKind, name: &str, body: &str) -> Result<String, Fail> {
+    let body = Value::from_str(alloc, body)?;
+    let asked = command(alloc, call, name, &body);
+    let text = match &asked {
+        Ok(command) => command_told(alloc, command),
+        Err(error) => error_told(alloc, error),
+    };
+    drop(asked);
+    Ok(text?)
+}
+
+#[test]
+fn bodies_are_objects(rt: HostRuntime) -> Result<(), Fail> {
+    let alloc = rt.alloc();
+    let calls = [
+        CallKind::CreateTopic,
+        CallKind::CreateSubscription,
+        CallKind::Publish,
+        CallKind::Pull,
+        CallKind::Acknowledge,
+    ];
+    for call in calls {
+        for body in ["null", "true", "7", "\"x\"", "[]"] {
+            assert_eq!(rt;
+                told(alloc, call, NO_NAME, body)?.as_str(),
+                "400 body",
+                "{body}"
+            );
+        }
+    }
+    Ok(())
+}
