@@ -487,10 +487,10 @@ fn expect_many(rt: &impl Abort, alloc: Global, count: u64, answer: &str) -> Resu
     expect(rt, alloc, &mut cabinet, "f", &[line.as_str()], &[answer])
 }
 
-/// The answer to a publish of messages 1 to this.
-fn numbered(alloc: Global, count: u64) -> Result<String, Fail> {
+/// The answer to a publish of messages 1 to 1000.
+fn a_thousand_ids(alloc: Global) -> Result<String, Fail> {
     let mut text = String::from_str(alloc, "{\"body\":{\"messageIds\":[\"1\"")?;
-    for number in 2..count + 1 {
+    for number in 2..1001u64 {
         text.push_str(format!(in alloc; ",\"{number}\"")?.as_str())?;
     }
     text.push_str("]},\"code\":200}\n")?;
@@ -500,7 +500,7 @@ fn numbered(alloc: Global, count: u64) -> Result<String, Fail> {
 #[test]
 fn a_publish_has_at_most_1_000_messages(rt: HostRuntime) -> Result<(), Fail> {
     let alloc = rt.alloc();
-    expect_many(&rt, alloc, 1000, numbered(alloc, 1000)?.as_str())?;
+    expect_many(&rt, alloc, 1000, a_thousand_ids(alloc)?.as_str())?;
     let refused = answer_of(alloc, Answer::Refused(400, "messages"))?;
     expect_many(&rt, alloc, 1001, refused.as_str())
 }
