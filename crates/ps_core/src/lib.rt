@@ -9,8 +9,6 @@ mod laws;
 mod machine;
 mod messages;
 mod places;
-#[cfg(test)]
-mod publish_tests;
 mod service;
 mod share;
 #[cfg(test)]

@@ -5,7 +5,8 @@ mod publishes;
 use super::*;
 use ps_base::{AckId, Labels, OutOfMemory};
 use ps_message::Message;
-use ps_model::Command;
+use ps_model::{Command, SubConfig, TopicConfig};
+use ps_names::{SubName, TopicName};
 use serde_json::Value;
 use std::alloc::Global;
 use std::test::Fail;
@@ -46,40 +47,81 @@ fn ids_told(alloc: Global, ids: &[AckId]) -> Result<String, OutOfMemory> {
     Ok(told)
 }
 
+fn topic_told(
+    alloc: Global,
+    topic: &TopicName,
+    config: &TopicConfig,
+) -> Result<String, OutOfMemory> {
+    let labels = labels_told(alloc, &config.labels)?;
+    Ok(format!(in alloc; "{} {labels} {:?}", topic.text(), config.retention)?)
+}
+
+fn sub_told(
+    alloc: Global,
+    subscription: &SubName,
+    topic: &TopicName,
+    config: &SubConfig,
+) -> Result<String, OutOfMemory> {
+    Ok(format!(in alloc;
+        "{} {} {} {} {:?}",
+        subscription.text(),
+        topic.text(),
+        config.ack_seconds,
+        config.retention,
+        config.expiration
+    )?)
+}
+
+fn publish_told(
+    alloc: Global,
+    topic: &TopicName,
+    messages: &[Message],
+) -> Result<String, OutOfMemory> {
+    let messages = messages_told(alloc, messages)?;
+    Ok(format!(in alloc; "{}{messages}", topic.text())?)
+}
+
+fn pull_told(
+    alloc: Global,
+    subscription: &SubName,
+    max: u32,
+    budget: u64,
+    seconds: Option<u32>,
+) -> Result<String, OutOfMemory> {
+    Ok(format!(in alloc; "{} {max} {budget} {seconds:?}", subscription.text())?)
+}
+
+fn acknowledge_told(
+    alloc: Global,
+    subscription: &SubName,
+    ids: &[AckId],
+) -> Result<String, OutOfMemory> {
+    let ids = ids_told(alloc, ids)?;
+    Ok(format!(in alloc; "{}{ids}", subscription.text())?)
+}
+
 /// The fields of a command, as a text.
 fn command_told(alloc: Global, command: &Command) -> Result<String, OutOfMemory> {
     match command {
-        Command::CreateTopic { topic, config } => {
-            let labels = labels_told(alloc, &config.labels)?;
-            Ok(format!(in alloc; "{} {labels} {:?}", topic.text(), config.retention)?)
-        }
+        Command::CreateTopic { topic, config } => topic_told(alloc, topic, config),
         Command::CreateSubscription {
             subscription,
             topic,
             config,
-        } => Ok(format!(in alloc;
-            "{} {} {} {} {:?}",
-            subscription.text(),
-            topic.text(),
-            config.ack_seconds,
-            config.retention,
-            config.expiration
-        )?),
-        Command::Publish { topic, messages } => {
-            let messages = messages_told(alloc, messages.as_slice())?;
-            Ok(format!(in alloc; "{}{messages}", topic.text())?)
-        }
+        } => sub_told(alloc, subscription, topic, config),
+        Command::Publish { topic, messages } => publish_told(alloc, topic, messages.as_slice()),
         Command::Pull {
             subscription,
             max,
             budget,
             seconds,
-        } => Ok(format!(in alloc; "{} {max} {budget} {seconds:?}", subscription.text())?),
-        Command::Acknowledge { subscription, ids } => {
-            let ids = ids_told(alloc, ids.as_slice())?;
-            Ok(format!(in alloc; "{}{ids}", subscription.text())?)
-        }
-        _ => Ok(format!(in alloc; "another")?),
+        } => pull_told(alloc, subscription, *max, *budget, *seconds),
+        Command::Acknowledge { subscription, ids } => acknowledge_told(
+            alloc,
+            subscription,
+            ids.as_slice(),
+        ),
+        _ => Ok(String::from_str(alloc, "another")?),
     }
 }
 
