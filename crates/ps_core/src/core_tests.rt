@@ -55,6 +55,9 @@ const PUBLISH_ATTRIBUTE: &[u8] = b"\x01\0\0\0\0\0\0\0\0\x0c\0\0\0\x15projects/p/
 const PUBLISH_EMPTY: &[u8] = b"\x01\0\0\0\0\0\0\0\0\x0c\0\0\0\x15projects/p/topics/abc\
     \0\0\0\x01\0\0\0\0\0\0\0\0\0\0\0\0";
 
+/// A publish, up to the number of its messages.
+const PUBLISH_START: &[u8] = b"\x01\0\0\0\0\0\0\0\0\x0c\0\0\0\x15projects/p/topics/abc";
+
 /// Of one message.
 const PULL_ONE: &[u8] = b"\x01\0\0\0\0\0\0\0\0\x0d\0\0\0\x1cprojects/p/subscriptions/sub\
     \0\0\0\x01\0\0\0\0\0\x98\x96\x80\0";
@@ -238,12 +241,44 @@ fn leases_end_and_are_acknowledged(rt: HostRuntime) -> Result<(), Fail> {
     Ok(())
 }
 
+/// The row of a publish of so many messages with the payload `a`.
+fn wide_publish(alloc: Global, number: u32) -> Result<Vec<u8>, OutOfMemory> {
+    let mut row = Vec::from_slice(alloc, PUBLISH_START)?;
+    row.extend_from_slice(&number.to_be_bytes())?;
+    for _ in 0..number {
+        row.extend_from_slice(b"\0\0\0\x01a\0\0\0\0\0\0\0\0")?;
+    }
+    Ok(row)
+}
+
+#[test]
+fn a_thousand_messages_are_published_at_once(rt: HostRuntime) -> Result<(), Fail> {
+    let alloc = rt.alloc();
+    let mut core = Core::fresh(alloc)?;
+    let mut copy = Core::fresh(alloc)?;
+    for step in LEASED {
+        assert!(rt; is_so(&mut core, &mut copy, alloc, step)?);
+    }
+    let table = [(1001, 400, 0, 0, 0), (1000, 200, 2, 1000, 2000)];
+    for (number, code, first, second, recorded) in table {
+        let row = wide_publish(alloc, number)?;
+        let told = call(&mut core, &mut copy, alloc, 2000, row.as_slice())?.ok_or("no row")?;
+        assert_eq!(rt; told.code, code, "{number}");
+        assert_eq!(rt; told.first, first, "{number}");
+        assert_eq!(rt; told.second, second, "{number}");
+        assert_eq!(rt; told.recorded, recorded, "{number}");
+    }
+    Ok(())
+}
+
 #[test]
 fn a_session_is_answered_and_replayed(rt: HostRuntime) -> Result<(), Fail> {
     let alloc = rt.alloc();
     let mut core = Core::fresh(alloc)?;
     let mut copy = Core::fresh(alloc)?;
-    let table: [(u64, &[u8], u16, u64, u64, u64); 22] = [
+    let table: [(u64, &[u8], u16, u64, u64, u64); 23] = [
+        // An argument that is refused goes before a subscription that isn't there.
+        (1000, EMPTY_PULL, 400, 0, 0, 0),
         (1000, SUBSCRIPTION, 404, 0, 0, 0),
         (1000, LABELLED_TOPIC, 501, 0, 0, 0),
         (1000, TOPIC, 200, 0, 0, 1000),
