@@ -9,6 +9,7 @@ use ps_model::{Command, SubConfig, TopicConfig};
 use ps_names::{SubName, TopicName};
 use serde_json::Value;
 use std::alloc::Global;
+use std::process::Abort;
 use std::test::Fail;
 
 const TOPIC: &str = "projects/p/topics/abc";
@@ -148,6 +149,20 @@ fn told(alloc: Global, call: CallKind, name: &str, body: &str) -> Result<String,
     Ok(text?)
 }
 
+/// Compares what a call with this body is told with what is expected.
+fn expect(
+    rt: &impl Abort,
+    alloc: Global,
+    call: CallKind,
+    name: &str,
+    body: &str,
+    want: &str,
+) -> Result<(), Fail> {
+    let told = told(alloc, call, name, body)?;
+    assert_eq!(rt; told.as_str(), want, "{body}");
+    Ok(())
+}
+
 #[test]
 fn bodies_are_objects(rt: HostRuntime) -> Result<(), Fail> {
     let alloc = rt.alloc();
@@ -160,11 +175,7 @@ fn bodies_are_objects(rt: HostRuntime) -> Result<(), Fail> {
     ];
     for call in calls {
         for body in ["null", "true", "7", "\"x\"", "[]"] {
-            assert_eq!(rt;
-                told(alloc, call, NO_NAME, body)?.as_str(),
-                "400 body",
-                "{body}"
-            );
+            expect(&rt, alloc, call, NO_NAME, body, "400 body")?;
         }
     }
     Ok(())

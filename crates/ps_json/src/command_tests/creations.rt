@@ -20,11 +20,7 @@ fn topics_are_created(rt: HostRuntime) -> Result<(), Fail> {
         (TOPIC, r#"{"name":"projects/p/topics/other"}"#, "400 name"),
     ];
     for (name, body, want) in table {
-        assert_eq!(rt;
-            told(alloc, CallKind::CreateTopic, name, body)?.as_str(),
-            want,
-            "{body}"
-        );
+        expect(&rt, alloc, CallKind::CreateTopic, name, body, want)?;
     }
     Ok(())
 }
@@ -75,11 +71,7 @@ fn subscriptions_are_created(rt: HostRuntime) -> Result<(), Fail> {
         ),
     ];
     for (name, body, want) in table {
-        assert_eq!(rt;
-            told(alloc, CallKind::CreateSubscription, name, body)?.as_str(),
-            want,
-            "{body}"
-        );
+        expect(&rt, alloc, CallKind::CreateSubscription, name, body, want)?;
     }
     Ok(())
 }

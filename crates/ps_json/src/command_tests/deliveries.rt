@@ -40,11 +40,7 @@ fn pulls_are_read(rt: HostRuntime) -> Result<(), Fail> {
         (SUB, "{}", "400 maxMessages"),
     ];
     for (name, body, want) in table {
-        assert_eq!(rt;
-            told(alloc, CallKind::Pull, name, body)?.as_str(),
-            want,
-            "{body}"
-        );
+        expect(&rt, alloc, CallKind::Pull, name, body, want)?;
     }
     Ok(())
 }
@@ -80,11 +76,7 @@ fn whole_numbers_are_read(rt: HostRuntime) -> Result<(), Fail> {
     ];
     for (number, want) in table {
         let body = format!(in alloc; "{{\"maxMessages\":{number}}}")?;
-        assert_eq!(rt;
-            told(alloc, CallKind::Pull, SUB, body.as_str())?.as_str(),
-            want,
-            "{number}"
-        );
+        expect(&rt, alloc, CallKind::Pull, SUB, body.as_str(), want)?;
     }
     Ok(())
 }
@@ -130,16 +122,8 @@ fn acknowledgements_are_read(rt: HostRuntime) -> Result<(), Fail> {
         ),
     ];
     for (body, want) in table {
-        assert_eq!(rt;
-            told(alloc, CallKind::Acknowledge, SUB, body)?.as_str(),
-            want,
-            "{body}"
-        );
-        assert_eq!(rt;
-            told(alloc, CallKind::Acknowledge, TOPIC, body)?.as_str(),
-            "400 name",
-            "{body}"
-        );
+        expect(&rt, alloc, CallKind::Acknowledge, SUB, body, want)?;
+        expect(&rt, alloc, CallKind::Acknowledge, TOPIC, body, "400 name")?;
     }
     Ok(())
 }

@@ -55,16 +55,15 @@ fn messages_are_read(rt: HostRuntime) -> Result<(), Fail> {
     ];
     for (messages, want) in table {
         let body = format!(in alloc; "{{\"messages\":{messages}}}")?;
-        assert_eq!(rt;
-            told(alloc, CallKind::Publish, TOPIC, body.as_str())?.as_str(),
-            want,
-            "{messages}"
-        );
-        assert_eq!(rt;
-            told(alloc, CallKind::Publish, SUB, body.as_str())?.as_str(),
+        expect(&rt, alloc, CallKind::Publish, TOPIC, body.as_str(), want)?;
+        expect(
+            &rt,
+            alloc,
+            CallKind::Publish,
+            SUB,
+            body.as_str(),
             "400 name",
-            "{messages}"
-        );
+        )?;
     }
     Ok(())
 }
@@ -86,11 +85,7 @@ fn unknown_fields_of_a_publish_are_told_by_the_least_path(rt: HostRuntime) -> Re
         ),
     ];
     for (body, want) in table {
-        assert_eq!(rt;
-            told(alloc, CallKind::Publish, TOPIC, body)?.as_str(),
-            want,
-            "{body}"
-        );
+        expect(&rt, alloc, CallKind::Publish, TOPIC, body, want)?;
     }
     Ok(())
 }
@@ -117,11 +112,7 @@ fn payloads_are_canonical_base64(rt: HostRuntime) -> Result<(), Fail> {
     ];
     for (data, want) in table {
         let body = format!(in alloc; "{{\"messages\":[{{\"data\":\"{data}\"}}]}}")?;
-        assert_eq!(rt;
-            told(alloc, CallKind::Publish, TOPIC, body.as_str())?.as_str(),
-            want,
-            "{data}"
-        );
+        expect(&rt, alloc, CallKind::Publish, TOPIC, body.as_str(), want)?;
     }
     Ok(())
 }
