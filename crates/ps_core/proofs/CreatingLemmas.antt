@@ -15,8 +15,8 @@ use Rattle.ps_message.specs.Lists.{is_empty}
 use Rattle.ps_model.specs.declared.mark.Mark.TheVariants.{Done}
 use Rattle.ps_model.specs.declared.mark.DoneCause.TheVariants.{Acknowledged}
 use Rattle.ps_model.specs.declared.mark.Slot.{Slot}
-use Rattle.ps_model.specs.declared.config.TopicConfig.{TopicConfig}
-use Rattle.ps_model.specs.declared.config.SubConfig.{SubConfig}
+use Rattle.ps_config.specs.declared.config.TopicConfig.{TopicConfig}
+use Rattle.ps_config.specs.declared.config.SubConfig.{SubConfig}
 use Rattle.ps_model.specs.declared.command.Command.{Command}
 use Rattle.ps_model.specs.declared.command.Command.TheVariants.{CreateTopic, CreateSubscription}
 use Rattle.ps_model.specs.declared.reply.Reply.{Reply}
@@ -26,11 +26,12 @@ use Rattle.ps_model.specs.declared.world.TopicRow.{TopicRow}
 use Rattle.ps_model.specs.declared.world.SubRow.{SubRow}
 use Rattle.ps_model.specs.declared.world.MessageRow.{MessageRow}
 use Rattle.ps_model.specs.declared.world.MarkRow.{MarkRow}
-use Rattle.ps_model.specs.Checks.{topic_fault, new_sub_fault}
+use Rattle.ps_config.specs.Limits.{topic_fault}
+use Rattle.ps_model.specs.Checks.{new_sub_fault}
 use Rattle.ps_model.specs.Commands.{outcome}
 use Rattle.ps_model.specs.Failing.{is_due}
 use Rattle.ps_model.specs.Filters.{meets}
-use Rattle.ps_model.specs.Masks.{default_topic, default_sub, whole_mask}
+use Rattle.ps_config.specs.Masks.{default_topic, default_sub, whole_mask}
 use Rattle.ps_model.specs.Outcomes.{answers}
 use Rattle.ps_model.specs.Retention.{is_within}
 use Rattle.ps_model.specs.Same.{same_world, WorldParts}

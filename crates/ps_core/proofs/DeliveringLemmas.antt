@@ -9,7 +9,7 @@ use Rattle.std.proofs.Math.Seq.{map-set_same}
 use Rattle.std.proofs.lemmas.List.Quantifiers.{position-Some}
 use Rattle.ps_base.specs.Moments.{last_moment}
 use Rattle.ps_base.specs.declared.ack_id.AckId.{AckId}
-use Rattle.ps_model.specs.declared.config.SubConfig.{SubConfig}
+use Rattle.ps_config.specs.declared.config.SubConfig.{SubConfig}
 use Rattle.ps_model.specs.declared.mark.DoneCause.TheVariants.{Acknowledged}
 use Rattle.ps_model.specs.declared.mark.Handed.{Handed}
 use Rattle.ps_model.specs.declared.mark.Mark.{Mark}
@@ -24,7 +24,7 @@ use Rattle.ps_model.specs.Acknowledging.{acknowledge, is_early, is_named, mark_a
 use Rattle.ps_model.specs.Answering.{acknowledge_at, invalid_ids, tickets_of, unordered_ids}
 use Rattle.ps_model.specs.Choice.{choice, deliverable, first_of_them, handed, lease_in, leased_as, lent, lent_mark}
 use Rattle.ps_model.specs.Failing.{is_due, is_over}
-use Rattle.ps_model.specs.Masks.{default_sub}
+use Rattle.ps_config.specs.Masks.{default_sub}
 use Rattle.ps_model.specs.Outcomes.{Outcome, answers}
 use Rattle.ps_model.specs.Pulling.{pull_from, received_all}
 use Rattle.ps_model.specs.Same.{WorldParts, same_world}

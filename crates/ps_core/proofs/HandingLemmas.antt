@@ -9,7 +9,7 @@ use Rattle.ps_base.specs.declared.refusal.Refusal.TheVariants.{NotFound}
 use Rattle.ps_message.specs.Messages.{broken}
 use Rattle.ps_model.specs.declared.command.Command.{Command}
 use Rattle.ps_model.specs.declared.command.Command.TheVariants.{Acknowledge, Pull}
-use Rattle.ps_model.specs.declared.config.SubConfig.{SubConfig}
+use Rattle.ps_config.specs.declared.config.SubConfig.{SubConfig}
 use Rattle.ps_model.specs.declared.mark.Handed.{Handed}
 use Rattle.ps_model.specs.declared.reply.ReceivedMessage.{ReceivedMessage}
 use Rattle.ps_model.specs.declared.reply.Reply.{Reply}

@@ -9,8 +9,8 @@ use Rattle.ps_model.specs.declared.mark.Mark.{Mark}
 use Rattle.ps_model.specs.declared.mark.Mark.TheVariants.{Backlog, Leased, Ahead, Done, Gone}
 use Rattle.ps_model.specs.declared.mark.DoneCause.TheVariants.{Dead}
 use Rattle.ps_model.specs.declared.mark.Slot.{Slot}
-use Rattle.ps_model.specs.declared.config.SubConfig.{SubConfig}
-use Rattle.ps_model.specs.declared.config.TopicConfig.{TopicConfig}
+use Rattle.ps_config.specs.declared.config.SubConfig.{SubConfig}
+use Rattle.ps_config.specs.declared.config.TopicConfig.{TopicConfig}
 use Rattle.ps_model.specs.declared.world.World.{World}
 use Rattle.ps_model.specs.declared.world.TopicRow.{TopicRow}
 use Rattle.ps_model.specs.declared.world.SubRow.{SubRow}
@@ -18,7 +18,7 @@ use Rattle.ps_model.specs.declared.world.MessageRow.{MessageRow}
 use Rattle.ps_model.specs.declared.world.MarkRow.{MarkRow}
 use Rattle.ps_model.specs.Failing.{failed, fallen, mark_after_failing, fail, is_dead, one_more, retry_at, is_due, is_over, dead_letter, dead_letters}
 use Rattle.ps_model.specs.Forwarding.{Letter, letters_of, dead_topic, forward, entered, enter_all}
-use Rattle.ps_model.specs.Masks.{default_topic, default_sub}
+use Rattle.ps_config.specs.Masks.{default_topic, default_sub}
 use Rattle.ps_model.specs.Retention.{expired_mark, caught_up_mark, released_mark, caught_up_as, is_within}
 use Rattle.ps_model.specs.Same.{same_world, WorldParts}
 use Rattle.ps_model.specs.Settling.{end_leases, ended_letters, expire, catch_up, release, is_wanted, let_go, expunge_world, settle}

@@ -5,8 +5,8 @@ use Rattle.ps_message.specs.declared.message.Message.{Message}
 use Rattle.ps_model.specs.declared.mark.Slot.{Slot}
 use Rattle.ps_model.specs.declared.mark.Handed.{Handed}
 use Rattle.ps_model.specs.declared.mark.Ticket.{Ticket}
-use Rattle.ps_model.specs.declared.config.TopicConfig.{TopicConfig}
-use Rattle.ps_model.specs.declared.config.SubConfig.{SubConfig}
+use Rattle.ps_config.specs.declared.config.TopicConfig.{TopicConfig}
+use Rattle.ps_config.specs.declared.config.SubConfig.{SubConfig}
 use Rattle.ps_model.specs.declared.world.TopicRow.{TopicRow}
 use Rattle.ps_model.specs.declared.world.MessageRow.{MessageRow}
 use Rattle.ps_model.specs.Acknowledging.{acknowledge}

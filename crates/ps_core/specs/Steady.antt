@@ -7,7 +7,7 @@ use Rattle.ps_model.specs.declared.mark.Mark.TheVariants.{Backlog, Leased, Ahead
 use Rattle.ps_model.specs.declared.mark.Slot.{Slot}
 use Rattle.ps_model.specs.declared.world.TopicRow.{TopicRow}
 use Rattle.ps_model.specs.declared.world.MessageRow.{MessageRow}
-use Rattle.ps_model.specs.Masks.{default_topic, default_sub}
+use Rattle.ps_config.specs.Masks.{default_topic, default_sub}
 use Rattle.ps_model.specs.Sound.{Ordered}
 use Rattle.ps_model.specs.Worlds.{row_of, slot_of}
 use Rattle.ps_sub.specs.Showing.{has}

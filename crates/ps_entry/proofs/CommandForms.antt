@@ -6,8 +6,8 @@ use Rattle.ps_message.specs.declared.message.Message.{Message}
 use Rattle.ps_codec.specs.Fields.{IsBytes, u32_field, u64_field, bytes_field}
 use Rattle.ps_codec.proofs.FieldLemmas.{IsBytes-behind}
 use Rattle.ps_names.specs.Names.{is_topic_name, is_sub_name}
-use Rattle.ps_model.specs.declared.config.TopicConfig.{TopicConfig}
-use Rattle.ps_model.specs.declared.config.SubConfig.{SubConfig}
+use Rattle.ps_config.specs.declared.config.TopicConfig.{TopicConfig}
+use Rattle.ps_config.specs.declared.config.SubConfig.{SubConfig}
 use Rattle.ps_model.specs.declared.command.Command.{Command}
 use Rattle.ps_model.specs.declared.command.Command.TheVariants.{Tick, CreateTopic, Publish, CreateSubscription, Pull, Acknowledge}
 use Rattle.ps_model.specs.Forms.{Reading, pair_form, pair_at, made_at, option_form, option_at, number32_at, number64_at, name_at, list_form, list_at, message_form, message_at, ack_id_form, ack_id_at, topic_config_form, topic_config_at, sub_config_form, sub_config_at, PairFits, OptionFits, ListFits, NameFits, TopicConfigFits, SubConfigFits, MessageFits, AckIdFits, IsBelow32, IsBelow64}

@@ -4,8 +4,8 @@ use Rattle.ps_base.specs.declared.ack_id.AckId.{AckId}
 use Rattle.ps_message.specs.declared.message.Message.{Message}
 use Rattle.ps_codec.specs.Fields.{u32_field, u64_field, bytes_field}
 use Rattle.ps_names.specs.Names.{is_topic_name, is_sub_name}
-use Rattle.ps_model.specs.declared.config.TopicConfig.{TopicConfig}
-use Rattle.ps_model.specs.declared.config.SubConfig.{SubConfig}
+use Rattle.ps_config.specs.declared.config.TopicConfig.{TopicConfig}
+use Rattle.ps_config.specs.declared.config.SubConfig.{SubConfig}
 use Rattle.ps_model.specs.declared.command.Command.{Command}
 use Rattle.ps_model.specs.declared.command.Command.TheVariants.{Tick, CreateTopic, Publish, CreateSubscription, Pull, Acknowledge}
 use Rattle.ps_model.specs.Forms.{Reading, number32_at, number64_at, pair_at, option_form, option_at, list_form, list_at, made_at, name_at, topic_config_form, topic_config_at, sub_config_form, sub_config_at, message_form, message_at, ack_id_form, ack_id_at, IsBelow32, IsBelow64, OptionFits, ListFits, NameFits, TopicConfigFits, SubConfigFits, MessageFits, AckIdFits}

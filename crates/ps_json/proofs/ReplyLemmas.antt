@@ -7,7 +7,7 @@ use Rattle.serde_json.specs.Data.{Data, string, Members, no_members, member, put
 use Rattle.serde_json.specs.View.{items_of}
 use Rattle.serde_json.specs.Written.{has_float, items_have_float, members_have_float}
 use Rattle.ps_base.specs.declared.ack_id.AckId.{AckId}
-use Rattle.ps_model.specs.declared.config.RetryPolicy.{RetryPolicy}
+use Rattle.ps_config.specs.declared.config.RetryPolicy.{RetryPolicy}
 use Rattle.ps_model.specs.declared.reply.TopicShown.{TopicShown}
 use Rattle.ps_model.specs.declared.reply.SubShown.{SubShown}
 use Rattle.ps_model.specs.declared.reply.SnapShown.{SnapShown}

@@ -8,7 +8,7 @@ use Rattle.ps_base.specs.declared.refusal.Refusal.{Refusal}
 use Rattle.ps_names.specs.Names.{is_topic_name, is_sub_name}
 use Rattle.ps_model.specs.declared.command.Command.{Command}
 use Rattle.ps_model.specs.declared.command.Command.TheVariants.{CreateTopic, CreateSubscription}
-use Rattle.ps_model.specs.Masks.{default_topic, default_sub}
+use Rattle.ps_config.specs.Masks.{default_topic, default_sub}
 use Rattle.ps_json.specs.declared.tables.Table.TheVariants as table
 use Rattle.ps_json.specs.declared.paths.Place.TheVariants as place
 use Rattle.ps_json.specs.Checks.{broken, shape, unknown}

@@ -1,8 +1,8 @@
 -- Topics, subscriptions and snapshots as replies show them.
 use Rattle.std.specs.Prelude.{ℕ, List, [], ◌∷◌, Option, Some, option_map, unwrap_or, codes}
 use Rattle.serde_json.specs.Data.{Data, string, object, no_members}
-use Rattle.ps_model.specs.declared.config.DeadLetterPolicy.{DeadLetterPolicy}
-use Rattle.ps_model.specs.declared.config.RetryPolicy.{RetryPolicy}
+use Rattle.ps_config.specs.declared.config.DeadLetterPolicy.{DeadLetterPolicy}
+use Rattle.ps_config.specs.declared.config.RetryPolicy.{RetryPolicy}
 use Rattle.ps_model.specs.declared.reply.TopicShown.{TopicShown}
 use Rattle.ps_model.specs.declared.reply.SubShown.{SubShown}
 use Rattle.ps_model.specs.declared.reply.SnapShown.{SnapShown}

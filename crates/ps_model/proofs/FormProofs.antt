@@ -6,10 +6,10 @@ use Rattle.ps_base.specs.declared.ack_id.AckId.{AckId}
 use Rattle.ps_codec.specs.Fields.{bytes_field}
 use Rattle.ps_message.specs.declared.message.Message.{Message}
 use Rattle.ps_names.specs.Names.{is_topic_name}
-use Rattle.ps_model.specs.declared.config.TopicConfig.{TopicConfig}
-use Rattle.ps_model.specs.declared.config.SubConfig.{SubConfig}
-use Rattle.ps_model.specs.declared.config.DeadLetterPolicy.{DeadLetterPolicy}
-use Rattle.ps_model.specs.declared.config.RetryPolicy.{RetryPolicy}
+use Rattle.ps_config.specs.declared.config.TopicConfig.{TopicConfig}
+use Rattle.ps_config.specs.declared.config.SubConfig.{SubConfig}
+use Rattle.ps_config.specs.declared.config.DeadLetterPolicy.{DeadLetterPolicy}
+use Rattle.ps_config.specs.declared.config.RetryPolicy.{RetryPolicy}
 use Rattle.ps_model.specs.Forms
 use Rattle.ps_model.specs.FormLaws.{IsForm}
 use Rattle.ps_model.proofs.FormLemmas.{form-number32, form-number64, form-truth, form-octets, form-checked, form-made, form-pair, form-option, form-list}

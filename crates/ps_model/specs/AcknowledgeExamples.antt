@@ -2,11 +2,11 @@
 use Rattle.std.specs.Prelude.{◌≡◌, true, false, List, [], ◌∷◌, ◌++◌, None}
 use Rattle.ps_base.specs.declared.refusal.Refusal.TheVariants.{NotFound, InvalidArgument}
 use Rattle.ps_base.specs.declared.reason.Reason.TheVariants.{AckIds}
-use Rattle.ps_model.specs.declared.config.SubConfig.{SubConfig}
+use Rattle.ps_config.specs.declared.config.SubConfig.{SubConfig}
 use Rattle.ps_model.specs.declared.command.Command.TheVariants.{Acknowledge, CreateSubscription}
 use Rattle.ps_model.specs.declared.mark.Mark.TheVariants.{Leased}
 use Rattle.ps_model.specs.declared.reply.Reply.TheVariants.{Acked, Received, Refused}
-use Rattle.ps_model.specs.Masks.{default_sub}
+use Rattle.ps_config.specs.Masks.{default_sub}
 use Rattle.ps_model.specs.Samples.{Call, told, recorded_of, noted, counted, marks_after, standing, base, base_with, hi, publish_at, pull_of, pull_at, id, ack_at, give_up_at, out, plain_answer, topic_name, other_name}
 use Rattle.ps_model.specs.LeaseExamples.{pulled, pulled_with, exactly_once}
 

@@ -2,13 +2,13 @@
 use Rattle.std.specs.Prelude.{ℕ, ◌≡◌, false, List, [], ◌∷◌, ◌++◌, Some, None, codes, map}
 use Rattle.ps_base.specs.declared.refusal.Refusal.TheVariants.{NotFound, InvalidArgument}
 use Rattle.ps_base.specs.declared.reason.Reason.TheVariants.{MaxDeliveryAttempts}
-use Rattle.ps_model.specs.declared.config.SubConfig.{SubConfig}
+use Rattle.ps_config.specs.declared.config.SubConfig.{SubConfig}
 use Rattle.ps_message.specs.declared.message.Message.{Message}
 use Rattle.ps_model.specs.declared.command.Command.TheVariants.{Tick, CreateTopic, CreateSubscription, UpdateSubscription, DeleteTopic}
 use Rattle.ps_model.specs.declared.mark.Mark.TheVariants.{Backlog, Leased}
 use Rattle.ps_model.specs.declared.reply.Reply.TheVariants.{Empty, Subscription, Refused}
 use Rattle.ps_model.specs.declared.reply.ReceivedMessage.{ReceivedMessage}
-use Rattle.ps_model.specs.Masks.{default_topic, default_sub}
+use Rattle.ps_config.specs.Masks.{default_topic, default_sub}
 use Rattle.ps_model.specs.Samples.{Call, told, recorded_of, noted, each_told, each_recorded, marks_after, standing, base, hi, publish_at, pull_of, pull_at, id, out, plain_answer, topic_name, sub_name, other_name}
 use Rattle.ps_model.specs.LeaseExamples.{pulled}
 

@@ -1,7 +1,7 @@
 -- Worked examples: where a dead letter stands on the subscription that it comes from, and on the one that gets it.
 use Rattle.std.specs.Prelude.{◌≡◌, List, [], ◌∷◌, ◌++◌, Some, None, codes}
 use Rattle.ps_model.specs.declared.command.Command.TheVariants.{Tick, CreateTopic, CreateSubscription}
-use Rattle.ps_model.specs.Masks.{default_topic, default_sub}
+use Rattle.ps_config.specs.Masks.{default_topic, default_sub}
 use Rattle.ps_model.specs.Standing.{InBacklog, IsDeadLettered}
 use Rattle.ps_model.specs.Step.{empty_world}
 use Rattle.ps_model.specs.History.{after_calls}

@@ -5,7 +5,7 @@ use Rattle.ps_base.specs.declared.reason.Reason.TheVariants.{AckIds, AckDeadline
 use Rattle.ps_model.specs.declared.command.Command.TheVariants.{CreateSubscription, ModifyAckDeadline}
 use Rattle.ps_model.specs.declared.mark.Mark.TheVariants.{Backlog, Leased}
 use Rattle.ps_model.specs.declared.reply.Reply.TheVariants.{Modified, Refused}
-use Rattle.ps_model.specs.Masks.{default_sub}
+use Rattle.ps_config.specs.Masks.{default_sub}
 use Rattle.ps_model.specs.Samples.{Call, told, recorded_of, noted, tick_at, marks_after, standing, hi, pull_at, id, modify_at, give_up_at, out, plain_answer, topic_name, other_name, base}
 use Rattle.ps_model.specs.LeaseExamples.{pulled}
 

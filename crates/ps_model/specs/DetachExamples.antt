@@ -1,11 +1,11 @@
 -- Worked examples: a deleted topic's subscription, and detached subscriptions.
 use Rattle.std.specs.Prelude.{ℕ, ◌≡◌, true, false, List, [], ◌∷◌, ◌++◌, Option, Some, None, codes}
 use Rattle.ps_base.specs.declared.reason.Reason.TheVariants.{Detached, MaxMessages}
-use Rattle.ps_model.specs.declared.config.SubConfig.{SubConfig}
+use Rattle.ps_config.specs.declared.config.SubConfig.{SubConfig}
 use Rattle.ps_model.specs.declared.command.Command.TheVariants.{DeleteTopic, CreateSubscription, GetSubscription, Detach, UpdateSubscription}
 use Rattle.ps_model.specs.declared.reply.Reply.{Reply}
 use Rattle.ps_model.specs.declared.reply.Reply.TheVariants.{Empty, Subscription, Acked, Modified, Published}
-use Rattle.ps_model.specs.Masks.{default_sub}
+use Rattle.ps_config.specs.Masks.{default_sub}
 use Rattle.ps_model.specs.Samples.{Call, told, recorded_of, counted, base, base_with, hi, publish_at, pull_at, id, ack_at, modify_at, out, plain_answer, topic_name, sub_name, broken_by, none_named, not_allowed, noted}
 use Rattle.ps_model.specs.PublishExamples.{keeping_topic}
 

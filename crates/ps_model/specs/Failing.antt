@@ -5,9 +5,9 @@ use Rattle.ps_model.specs.declared.mark.Mark.TheVariants.{Backlog, Leased, Ahead
 use Rattle.ps_model.specs.declared.mark.DoneCause.TheVariants.{Dead}
 use Rattle.ps_model.specs.declared.mark.Slot.{Slot}
 use Rattle.ps_model.specs.declared.mark.DeadLetter.{DeadLetter}
-use Rattle.ps_model.specs.declared.config.SubConfig.{SubConfig}
-use Rattle.ps_model.specs.declared.config.RetryPolicy.{RetryPolicy}
-use Rattle.ps_model.specs.declared.config.DeadLetterPolicy.{DeadLetterPolicy}
+use Rattle.ps_config.specs.declared.config.SubConfig.{SubConfig}
+use Rattle.ps_config.specs.declared.config.RetryPolicy.{RetryPolicy}
+use Rattle.ps_config.specs.declared.config.DeadLetterPolicy.{DeadLetterPolicy}
 use Rattle.ps_model.specs.Slots.{any_earlier, remarked}
 
 -- one failure more, up to the greatest count

@@ -3,7 +3,7 @@ use Rattle.std.specs.Prelude.{◌≡◌, false, List, [], ◌∷◌, ◌++◌, S
 use Rattle.ps_model.specs.declared.command.Command.TheVariants.{Tick}
 use Rattle.ps_model.specs.declared.mark.Mark.TheVariants.{Backlog, Leased, Ahead}
 use Rattle.ps_model.specs.declared.reply.Reply.TheVariants.{Acked, Modified}
-use Rattle.ps_model.specs.Masks.{default_sub}
+use Rattle.ps_config.specs.Masks.{default_sub}
 use Rattle.ps_model.specs.Samples.{Call, told, recorded_of, noted, tick_at, marks_after, standing, hi, pull_at, id, ack_at, modify_at, give_up_at, out}
 use Rattle.ps_model.specs.OrderingExamples.{ordered, out_with, three_out, third_early, of_k, of_j, ordered_answer}
 

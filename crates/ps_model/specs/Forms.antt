@@ -7,10 +7,10 @@ use Rattle.ps_codec.specs.Found.{u32_at, u64_at, flag_at, bytes_at}
 use Rattle.ps_base.specs.Keys.{has_ascending_keys}
 use Rattle.ps_base.specs.declared.ack_id.AckId.{AckId}
 use Rattle.ps_message.specs.declared.message.Message.{Message}
-use Rattle.ps_model.specs.declared.config.TopicConfig.{TopicConfig}
-use Rattle.ps_model.specs.declared.config.SubConfig.{SubConfig}
-use Rattle.ps_model.specs.declared.config.DeadLetterPolicy.{DeadLetterPolicy}
-use Rattle.ps_model.specs.declared.config.RetryPolicy.{RetryPolicy}
+use Rattle.ps_config.specs.declared.config.TopicConfig.{TopicConfig}
+use Rattle.ps_config.specs.declared.config.SubConfig.{SubConfig}
+use Rattle.ps_config.specs.declared.config.DeadLetterPolicy.{DeadLetterPolicy}
+use Rattle.ps_config.specs.declared.config.RetryPolicy.{RetryPolicy}
 use Rattle.ps_names.specs.Names.{is_topic_name}
 
 -- a value at the front of some bytes, with the bytes after it

@@ -1,6 +1,6 @@
 -- Worked examples: dead letters as the other topic has them.
 use Rattle.std.specs.Prelude.{ℕ, ◌≡◌, false, true, List, [], ◌∷◌, ◌++◌, None, codes}
-use Rattle.ps_model.specs.declared.config.SubConfig.{SubConfig}
+use Rattle.ps_config.specs.declared.config.SubConfig.{SubConfig}
 use Rattle.ps_message.specs.declared.message.Message.{Message}
 use Rattle.ps_model.specs.declared.command.Command.TheVariants.{Tick, CreateTopic, CreateSubscription}
 use Rattle.ps_model.specs.declared.mark.Mark.TheVariants.{Backlog, Done}
@@ -8,7 +8,7 @@ use Rattle.ps_model.specs.declared.mark.DoneCause.TheVariants.{Dead}
 use Rattle.ps_model.specs.declared.reply.Reply.TheVariants.{Published, Received}
 use Rattle.ps_model.specs.declared.reply.ReceivedMessage.{ReceivedMessage}
 use Rattle.ps_model.specs.Timestamps.{timestamp}
-use Rattle.ps_model.specs.Masks.{default_topic, default_sub}
+use Rattle.ps_config.specs.Masks.{default_topic, default_sub}
 use Rattle.ps_model.specs.Samples.{Call, told, recorded_of, noted, tick_at, counted, marks_after, standing, base_with, hi, publish_at, pull_of, pull_at, id, give_up_at, out, plain_answer, topic_name, other_name}
 use Rattle.ps_model.specs.OrderingExamples.{of_k}
 use Rattle.ps_model.specs.DeadLetterExamples.{dead_name, letters_name, dying, dying_to, two_topics, five_times_with, five_times, five_pulls, without_topic, attempt}

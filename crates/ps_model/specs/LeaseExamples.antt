@@ -1,10 +1,10 @@
 -- Worked examples: leases, their ends, and acknowledgements in both modes.
 use Rattle.std.specs.Prelude.{◌≡◌, true, false, List, [], ◌∷◌, ◌++◌, Some, None}
-use Rattle.ps_model.specs.declared.config.SubConfig.{SubConfig}
+use Rattle.ps_config.specs.declared.config.SubConfig.{SubConfig}
 use Rattle.ps_model.specs.declared.command.Command.TheVariants.{Tick, CreateTopic, CreateSubscription, Publish}
 use Rattle.ps_model.specs.declared.mark.Mark.TheVariants.{Leased}
 use Rattle.ps_model.specs.declared.reply.Reply.TheVariants.{Published, Acked, Received, Topic, Subscription}
-use Rattle.ps_model.specs.Masks.{default_topic, default_sub}
+use Rattle.ps_config.specs.Masks.{default_topic, default_sub}
 use Rattle.ps_model.specs.Samples.{Call, told, recorded_of, noted, counted, marks_after, standing, base, base_with, hi, publish_at, pull_at, id, ack_at, out, plain_answer, topic_name, sub_name}
 
 -- one message is published and pulled

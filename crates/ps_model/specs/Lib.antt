@@ -10,7 +10,6 @@ pub mod Acknowledging
 pub mod Modifying
 pub mod Seeking
 pub mod Retention
-pub mod Masks
 pub mod Same
 pub mod Worlds
 pub mod Forwarding

@@ -7,7 +7,7 @@ use Rattle.ps_model.specs.declared.reply.Reply.TheVariants.{Page}
 use Rattle.ps_model.specs.declared.reply.PageItems.TheVariants.{Topics, Subscriptions, SubscriptionNames}
 use Rattle.ps_model.specs.declared.reply.TopicShown.{TopicShown}
 use Rattle.ps_model.specs.declared.reply.SubShown.{SubShown}
-use Rattle.ps_model.specs.Masks.{default_topic, default_sub}
+use Rattle.ps_config.specs.Masks.{default_topic, default_sub}
 use Rattle.ps_model.specs.Listing.{page_size, page_of}
 use Rattle.ps_model.specs.LeaseExamples.{pulled}
 use Rattle.ps_model.specs.Samples.{Call, told, recorded_of, none_named}

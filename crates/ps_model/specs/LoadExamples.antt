@@ -1,14 +1,14 @@
 -- Worked examples: a run of any size by rote. It publishes, and then pulls, acknowledges and gives up until nothing is left.
 use Rattle.std.specs.Prelude.{ℕ, zero, suc, ◌+◌, ◌-◌, ◌*◌, ◌/◌, ◌%◌, ◌≡◌, Bool, true, not, nat_eq, List, [], ◌∷◌, ◌++◌, Some, codes, decimal, map, filter, if◌then◌else◌}
 use Rattle.ps_base.specs.declared.ack_id.AckId.{AckId}
-use Rattle.ps_model.specs.declared.config.SubConfig.{SubConfig}
+use Rattle.ps_config.specs.declared.config.SubConfig.{SubConfig}
 use Rattle.ps_message.specs.declared.message.Message.{Message}
 use Rattle.ps_model.specs.declared.command.Command.TheVariants.{CreateTopic, CreateSubscription, Publish, Acknowledge, ModifyAckDeadline}
 use Rattle.ps_model.specs.declared.reply.Reply.{Reply}
 use Rattle.ps_model.specs.declared.reply.Reply.TheVariants.{Empty, Topic, Subscription, Snapshot, Page, Published, Received, Acked, Modified, Refused}
 use Rattle.ps_model.specs.declared.reply.ReceivedMessage.{ReceivedMessage}
 use Rattle.ps_model.specs.declared.world.World.{World}
-use Rattle.ps_model.specs.Masks.{default_topic, default_sub}
+use Rattle.ps_config.specs.Masks.{default_topic, default_sub}
 use Rattle.ps_message.specs.Lists.{is_empty}
 use Rattle.ps_model.specs.Counting.{stat}
 use Rattle.ps_model.specs.Step.{empty_world, reply}

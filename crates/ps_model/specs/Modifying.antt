@@ -6,7 +6,7 @@ use Rattle.ps_model.specs.declared.mark.Mark.TheVariants.{Backlog, Leased, Ahead
 use Rattle.ps_model.specs.declared.mark.Slot.{Slot}
 use Rattle.ps_model.specs.declared.mark.Ticket.{Ticket}
 use Rattle.ps_model.specs.declared.mark.DeadLetter.{DeadLetter}
-use Rattle.ps_model.specs.declared.config.SubConfig.{SubConfig}
+use Rattle.ps_config.specs.declared.config.SubConfig.{SubConfig}
 use Rattle.ps_model.specs.Lists.{once}
 use Rattle.ps_model.specs.Acknowledging.{same_ticket}
 use Rattle.ps_model.specs.Slots.{remarked, is_out}

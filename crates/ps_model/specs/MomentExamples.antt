@@ -2,7 +2,7 @@
 use Rattle.std.specs.Prelude.{ℕ, ◌≡◌, List, [], ◌∷◌, ◌++◌, None, codes}
 use Rattle.ps_model.specs.declared.command.Command.TheVariants.{Tick, GetTopic, UpdateSubscription}
 use Rattle.ps_model.specs.declared.reply.Reply.TheVariants.{Empty}
-use Rattle.ps_model.specs.Masks.{default_sub}
+use Rattle.ps_config.specs.Masks.{default_sub}
 use Rattle.ps_model.specs.LeaseExamples.{pulled}
 use Rattle.ps_model.specs.Samples.{Call, told, recorded_of, counted, base, hi, publish_at, pull_at, id, out, plain_answer, topic_name, sub_name, noted}
 use Rattle.ps_model.specs.SnapshotExamples.{out_since}

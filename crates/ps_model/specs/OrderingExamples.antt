@@ -1,13 +1,13 @@
 -- Worked examples: ordering keys, with turns, early acknowledgements, and delays that hold back the rest of a key.
 use Rattle.std.specs.Prelude.{◌≡◌, true, false, List, [], ◌∷◌, ◌++◌, Some, None, codes}
-use Rattle.ps_model.specs.declared.config.SubConfig.{SubConfig}
+use Rattle.ps_config.specs.declared.config.SubConfig.{SubConfig}
 use Rattle.ps_message.specs.declared.message.Message.{Message}
 use Rattle.ps_model.specs.declared.mark.Mark.TheVariants.{Backlog, Leased, Ahead, Done}
 use Rattle.ps_model.specs.declared.mark.DoneCause.TheVariants.{Acknowledged}
 use Rattle.ps_model.specs.declared.reply.Reply.{Reply}
 use Rattle.ps_model.specs.declared.reply.Reply.TheVariants.{Acked, Received}
 use Rattle.ps_model.specs.declared.reply.ReceivedMessage.{ReceivedMessage}
-use Rattle.ps_model.specs.Masks.{default_sub}
+use Rattle.ps_config.specs.Masks.{default_sub}
 use Rattle.ps_model.specs.Samples.{Call, told, recorded_of, noted, counted, marks_after, standing, base_with, hi, keyed, publish_at, pull_at, id, ack_at, give_up_at, out}
 
 abbrev pub ordered : SubConfig

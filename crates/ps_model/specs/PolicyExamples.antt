@@ -1,9 +1,9 @@
 -- Worked examples: the limits of labels, of dead-letter policies and of retry policies, and which broken setting is named.
 use Rattle.std.specs.Prelude.{ℕ, zero, suc, ◌≡◌, false, List, [], ◌∷◌, ◌++◌, Some, None, codes, replicate}
 use Rattle.ps_base.specs.declared.reason.Reason.TheVariants.{Labels, MessageRetentionDuration, AckDeadlineSeconds, ExpirationPolicy, FilterSyntax, MaxDeliveryAttempts, RetryPolicy}
-use Rattle.ps_model.specs.declared.config.SubConfig.{SubConfig}
-use Rattle.ps_model.specs.declared.config.TopicConfig.{TopicConfig}
-use Rattle.ps_model.specs.Masks.{default_topic, default_sub}
+use Rattle.ps_config.specs.declared.config.SubConfig.{SubConfig}
+use Rattle.ps_config.specs.declared.config.TopicConfig.{TopicConfig}
+use Rattle.ps_config.specs.Masks.{default_topic, default_sub}
 use Rattle.ps_model.specs.Samples.{told, base, topic_name, broken_by}
 use Rattle.ps_model.specs.TopicExamples.{shown_topic}
 use Rattle.ps_model.specs.SubscriptionExamples.{shown_sub, update_sub}

@@ -4,7 +4,7 @@ use Rattle.ps_base.specs.declared.reason.Reason.TheVariants.{Messages, MessageEm
 use Rattle.ps_message.specs.declared.message.Message.{Message}
 use Rattle.ps_model.specs.declared.command.Command.TheVariants.{CreateTopic}
 use Rattle.ps_model.specs.declared.reply.Reply.TheVariants.{Published}
-use Rattle.ps_model.specs.Masks.{default_topic}
+use Rattle.ps_config.specs.Masks.{default_topic}
 use Rattle.ps_model.specs.Samples.{Call, told, recorded_of, counted, base, hi, keyed, publish_at, topic_name, broken_by, none_named, noted}
 
 -- a message of this key and value, and no payload

@@ -8,7 +8,7 @@ use Rattle.ps_model.specs.declared.reply.Reply.{Reply}
 use Rattle.ps_model.specs.declared.reply.Reply.TheVariants.{Refused, Topic}
 use Rattle.ps_model.specs.declared.mark.Mark.TheVariants.{Leased}
 use Rattle.ps_model.specs.declared.world.World.{World}
-use Rattle.ps_model.specs.Masks.{default_topic, default_sub}
+use Rattle.ps_config.specs.Masks.{default_topic, default_sub}
 use Rattle.ps_model.specs.Step.{step, reply, entry_of}
 use Rattle.ps_model.specs.Samples.{Call, told, base, hi, id, pull_of, topic_name, sub_name, broken_by, none_named, taken_already, not_allowed}
 use Rattle.ps_model.specs.SubscriptionExamples.{create_sub, dead_name, with_dead}

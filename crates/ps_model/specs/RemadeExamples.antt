@@ -1,11 +1,11 @@
 -- Worked examples: resources that are deleted and made anew under the same name.
 use Rattle.std.specs.Prelude.{◌≡◌, true, false, List, [], ◌∷◌, ◌++◌, Some, None, codes}
 use Rattle.ps_base.specs.declared.reason.Reason.TheVariants.{SnapshotTopic}
-use Rattle.ps_model.specs.declared.config.SubConfig.{SubConfig}
+use Rattle.ps_config.specs.declared.config.SubConfig.{SubConfig}
 use Rattle.ps_model.specs.declared.command.Command.TheVariants.{CreateTopic, DeleteTopic, CreateSubscription, GetSubscription, DeleteSubscription, ListTopicSubscriptions, ListTopicSnapshots, SeekSnapshot, DeleteSnapshot}
 use Rattle.ps_model.specs.declared.reply.Reply.TheVariants.{Subscription, Published, Acked, Page}
 use Rattle.ps_model.specs.declared.reply.PageItems.TheVariants.{SubscriptionNames, SnapshotNames}
-use Rattle.ps_model.specs.Masks.{default_topic, default_sub}
+use Rattle.ps_config.specs.Masks.{default_topic, default_sub}
 use Rattle.ps_model.specs.Samples.{Call, told, recorded_of, counted, base_with, hi, publish_at, pull_at, id, ack_at, plain_answer, topic_name, sub_name, not_allowed}
 use Rattle.ps_model.specs.RefusalExamples.{snap_name, snap_at, snapped}
 use Rattle.ps_model.specs.SnapshotExamples.{all_pages, get_at, shown_snap, out_since}

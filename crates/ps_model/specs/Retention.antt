@@ -8,7 +8,7 @@ use Rattle.ps_model.specs.declared.mark.DoneCause.TheVariants.{Acknowledged, Dea
 use Rattle.ps_model.specs.declared.mark.GoneCause.{GoneCause}
 use Rattle.ps_model.specs.declared.mark.GoneCause.TheVariants as gone
 use Rattle.ps_model.specs.declared.mark.Slot.{Slot}
-use Rattle.ps_model.specs.declared.config.SubConfig.{SubConfig}
+use Rattle.ps_config.specs.declared.config.SubConfig.{SubConfig}
 use Rattle.ps_model.specs.declared.hold.Hold.{Hold}
 use Rattle.ps_model.specs.declared.hold.Holds.{Holds}
 use Rattle.ps_model.specs.Slots.{any_earlier, remarked, is_unacked, is_done}

@@ -5,10 +5,10 @@ use Rattle.ps_model.specs.declared.mark.Mark.TheVariants.{Backlog, Leased, Ahead
 use Rattle.ps_model.specs.declared.mark.DoneCause.TheVariants.{Acknowledged, Dead}
 use Rattle.ps_model.specs.declared.mark.GoneCause.TheVariants as gone
 use Rattle.ps_model.specs.declared.mark.Slot.{Slot}
-use Rattle.ps_model.specs.declared.config.SubConfig.{SubConfig}
+use Rattle.ps_config.specs.declared.config.SubConfig.{SubConfig}
 use Rattle.ps_model.specs.declared.hold.Hold.{Hold}
 use Rattle.ps_model.specs.declared.hold.Holds.{Holds}
-use Rattle.ps_model.specs.Masks.{default_sub}
+use Rattle.ps_config.specs.Masks.{default_sub}
 use Rattle.ps_model.specs.Retention.{is_held, lapsed}
 
 -- message 7, published at 1000

@@ -2,12 +2,12 @@
 use Rattle.std.specs.Prelude.{ℕ, ◌≡◌, false, List, [], ◌∷◌, ◌++◌, Some, None}
 use Rattle.ps_base.specs.declared.refusal.Refusal.TheVariants.{InvalidArgument}
 use Rattle.ps_base.specs.declared.reason.Reason.TheVariants as reason
-use Rattle.ps_model.specs.declared.config.SubConfig.{SubConfig}
+use Rattle.ps_config.specs.declared.config.SubConfig.{SubConfig}
 use Rattle.ps_model.specs.declared.command.Command.TheVariants.{CreateSubscription}
 use Rattle.ps_model.specs.declared.mark.Mark.TheVariants.{Backlog, Leased}
 use Rattle.ps_model.specs.declared.reply.Reply.TheVariants.{Modified, Refused}
 use Rattle.ps_model.specs.declared.reply.ReceivedMessage.{ReceivedMessage}
-use Rattle.ps_model.specs.Masks.{default_sub}
+use Rattle.ps_config.specs.Masks.{default_sub}
 use Rattle.ps_model.specs.Samples.{Call, told, recorded_of, noted, tick_at, each_told, each_recorded, marks_after, standing, base, hi, pull_at, id, give_up_at, out, plain_answer, topic_name, other_name}
 use Rattle.ps_model.specs.LeaseExamples.{pulled_with}
 

@@ -7,10 +7,10 @@ use Rattle.ps_model.specs.declared.mark.DoneCause.{DoneCause}
 use Rattle.ps_model.specs.declared.mark.DoneCause.TheVariants as done
 use Rattle.ps_model.specs.declared.mark.GoneCause.{GoneCause}
 use Rattle.ps_model.specs.declared.mark.GoneCause.TheVariants as gone
-use Rattle.ps_model.specs.declared.config.TopicConfig.{TopicConfig}
-use Rattle.ps_model.specs.declared.config.SubConfig.{SubConfig}
-use Rattle.ps_model.specs.declared.config.DeadLetterPolicy.{DeadLetterPolicy}
-use Rattle.ps_model.specs.declared.config.RetryPolicy.{RetryPolicy}
+use Rattle.ps_config.specs.declared.config.TopicConfig.{TopicConfig}
+use Rattle.ps_config.specs.declared.config.SubConfig.{SubConfig}
+use Rattle.ps_config.specs.declared.config.DeadLetterPolicy.{DeadLetterPolicy}
+use Rattle.ps_config.specs.declared.config.RetryPolicy.{RetryPolicy}
 use Rattle.ps_message.specs.declared.message.Message.{Message}
 use Rattle.ps_model.specs.declared.world.World.{World}
 use Rattle.ps_model.specs.declared.world.TopicRow.{TopicRow}

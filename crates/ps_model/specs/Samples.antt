@@ -3,7 +3,7 @@ use Rattle.std.specs.Prelude.{ℕ, false, List, [], ◌∷◌, Option, Some, Non
 use Rattle.ps_base.specs.declared.ack_id.AckId.{AckId}
 use Rattle.ps_base.specs.declared.reason.Reason.{Reason}
 use Rattle.ps_base.specs.declared.refusal.Refusal.TheVariants.{InvalidArgument, NotFound, AlreadyExists, FailedPrecondition}
-use Rattle.ps_model.specs.declared.config.SubConfig.{SubConfig}
+use Rattle.ps_config.specs.declared.config.SubConfig.{SubConfig}
 use Rattle.ps_message.specs.declared.message.Message.{Message}
 use Rattle.ps_model.specs.declared.command.Command.{Command}
 use Rattle.ps_model.specs.declared.command.Command.TheVariants.{Tick, CreateTopic, CreateSubscription, Publish, Pull, Acknowledge, ModifyAckDeadline}
@@ -15,7 +15,7 @@ use Rattle.ps_model.specs.declared.stat.Stat.{Stat}
 use Rattle.ps_model.specs.declared.world.World.{World}
 use Rattle.ps_model.specs.declared.world.MarkRow.{MarkRow}
 use Rattle.ps_model.specs.declared.mark.Mark.{Mark}
-use Rattle.ps_model.specs.Masks.{default_topic, default_sub}
+use Rattle.ps_config.specs.Masks.{default_topic, default_sub}
 use Rattle.ps_model.specs.Counting.{stat}
 use Rattle.ps_model.specs.Step.{empty_world, reply, entry_of}
 use Rattle.ps_model.specs.History.{called, after_calls, replies}

@@ -1,8 +1,8 @@
 -- Worked examples: one run of calls on a subscription with a filter, ordering, retries and dead letters, from the first call on.
 use Rattle.std.specs.Prelude.{ℕ, ◌+◌, ◌≡◌, true, false, List, [], ◌∷◌, Option, Some, None, codes}
 use Rattle.ps_base.specs.declared.ack_id.AckId.{AckId}
-use Rattle.ps_model.specs.declared.config.TopicConfig.{TopicConfig}
-use Rattle.ps_model.specs.declared.config.SubConfig.{SubConfig}
+use Rattle.ps_config.specs.declared.config.TopicConfig.{TopicConfig}
+use Rattle.ps_config.specs.declared.config.SubConfig.{SubConfig}
 use Rattle.ps_message.specs.declared.message.Message.{Message}
 use Rattle.ps_model.specs.declared.command.Command.TheVariants.{CreateTopic, CreateSubscription, Publish, Pull, Acknowledge, ModifyAckDeadline, ListSubscriptions, SeekTime}
 use Rattle.ps_model.specs.declared.command.Entry.{Entry}

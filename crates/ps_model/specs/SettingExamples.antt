@@ -1,11 +1,11 @@
 -- Worked examples: the limits of the settings of topics and subscriptions, each just inside and just outside.
 use Rattle.std.specs.Prelude.{ℕ, ◌≡◌, [], Option, Some, None}
 use Rattle.ps_base.specs.declared.reason.Reason.TheVariants.{MessageRetentionDuration, AckDeadlineSeconds, ExpirationPolicy}
-use Rattle.ps_model.specs.declared.config.SubConfig.{SubConfig}
-use Rattle.ps_model.specs.declared.config.TopicConfig.{TopicConfig}
+use Rattle.ps_config.specs.declared.config.SubConfig.{SubConfig}
+use Rattle.ps_config.specs.declared.config.TopicConfig.{TopicConfig}
 use Rattle.ps_model.specs.declared.command.Command.TheVariants.{CreateTopic}
 use Rattle.ps_model.specs.declared.reply.Reply.{Reply}
-use Rattle.ps_model.specs.Masks.{default_topic, default_sub}
+use Rattle.ps_config.specs.Masks.{default_topic, default_sub}
 use Rattle.ps_model.specs.Samples.{told, topic_name, broken_by}
 use Rattle.ps_model.specs.PublishExamples.{only_topic}
 use Rattle.ps_model.specs.TopicExamples.{shown_topic}

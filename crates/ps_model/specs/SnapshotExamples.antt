@@ -2,14 +2,14 @@
 use Rattle.std.specs.Prelude.{ℕ, ◌≡◌, List, [], ◌∷◌, ◌++◌, Option, Some, None, codes}
 use Rattle.ps_base.specs.declared.reason.Reason.TheVariants.{SnapshotLifetime}
 use Rattle.ps_base.specs.declared.ack_id.AckId.{AckId}
-use Rattle.ps_model.specs.declared.config.SubConfig.{SubConfig}
+use Rattle.ps_config.specs.declared.config.SubConfig.{SubConfig}
 use Rattle.ps_model.specs.declared.command.Command.TheVariants.{Tick, DeleteTopic, SeekSnapshot, UpdateSnapshot, GetSnapshot, DeleteSnapshot, ListSnapshots, ListTopicSnapshots}
 use Rattle.ps_model.specs.declared.command.Paging.{Paging}
 use Rattle.ps_model.specs.declared.reply.Reply.{Reply}
 use Rattle.ps_model.specs.declared.reply.Reply.TheVariants.{Empty, Snapshot, Page}
 use Rattle.ps_model.specs.declared.reply.PageItems.TheVariants.{Snapshots, SnapshotNames}
 use Rattle.ps_model.specs.declared.reply.ReceivedMessage.{ReceivedMessage}
-use Rattle.ps_model.specs.Masks.{default_sub}
+use Rattle.ps_config.specs.Masks.{default_sub}
 use Rattle.ps_model.specs.Samples.{Call, told, recorded_of, counted, base, base_with, hi, publish_at, pull_at, id, ack_at, out, topic_name, sub_name, none_named, taken_already, not_allowed, noted}
 use Rattle.ps_model.specs.RefusalExamples.{snap_name, snap_at, snapped}
 

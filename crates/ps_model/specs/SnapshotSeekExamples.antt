@@ -1,11 +1,11 @@
 -- Worked examples: seeks to a snapshot.
 use Rattle.std.specs.Prelude.{ℕ, ◌≡◌, true, false, List, [], ◌∷◌, ◌++◌, None, codes}
 use Rattle.ps_base.specs.declared.reason.Reason.TheVariants.{SnapshotTopic}
-use Rattle.ps_model.specs.declared.config.SubConfig.{SubConfig}
+use Rattle.ps_config.specs.declared.config.SubConfig.{SubConfig}
 use Rattle.ps_message.specs.declared.message.Message.{Message}
 use Rattle.ps_model.specs.declared.command.Command.TheVariants.{CreateTopic, DeleteTopic, CreateSubscription, SeekSnapshot, CreateSnapshot}
 use Rattle.ps_model.specs.declared.reply.Reply.TheVariants.{Empty, Acked, Received}
-use Rattle.ps_model.specs.Masks.{default_topic, default_sub}
+use Rattle.ps_config.specs.Masks.{default_topic, default_sub}
 use Rattle.ps_model.specs.Samples.{Call, told, recorded_of, counted, base, base_with, hi, keyed, publish_at, pull_of, pull_at, id, ack_at, out, plain_answer, topic_name, not_allowed, noted}
 use Rattle.ps_model.specs.RefusalExamples.{snap_name, snap_at}
 use Rattle.ps_model.specs.SnapshotExamples.{two_out, before_the_seek, sought, all_out_again, seek_at, out_since, second_open}

@@ -15,10 +15,11 @@ use Rattle.ps_model.specs.Slots.{is_gone, is_leased, is_backlog, is_ahead, is_un
 use Rattle.ps_model.specs.Lists.{tally}
 use Rattle.ps_model.specs.Filters.{meets}
 use Rattle.ps_model.specs.Retention.{is_held_by, holds}
-use Rattle.ps_model.specs.Masks.{whole_mask}
+use Rattle.ps_config.specs.Masks.{whole_mask}
 use Rattle.ps_model.specs.Worlds.{sub_numbered, message_numbered, message_at, slots_of, hold_of, holds_of}
 use Rattle.ps_model.specs.Settling.{is_wanted}
-use Rattle.ps_model.specs.Checks.{topic_fault, new_sub_fault, labels_fault}
+use Rattle.ps_config.specs.Limits.{topic_fault, labels_fault}
+use Rattle.ps_model.specs.Checks.{new_sub_fault}
 
 -- each member stands so to each later one
 abbrev pub Ordered : {A : Type 0} → (A → A → Type 0) → List A → Type 0

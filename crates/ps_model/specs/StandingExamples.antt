@@ -3,12 +3,12 @@ use Rattle.std.specs.Prelude.{ℕ, ◌≡◌, true, List, [], ◌∷◌, ◌++�
 use Rattle.ps_model.specs.declared.mark.Mark.TheVariants.{Done, Gone}
 use Rattle.ps_model.specs.declared.mark.DoneCause.TheVariants as done
 use Rattle.ps_model.specs.declared.mark.GoneCause.TheVariants as gone
-use Rattle.ps_model.specs.declared.config.SubConfig.{SubConfig}
+use Rattle.ps_config.specs.declared.config.SubConfig.{SubConfig}
 use Rattle.ps_model.specs.declared.command.Command.TheVariants.{CreateTopic, Publish, CreateSubscription, Detach}
 use Rattle.ps_model.specs.declared.world.World.{World}
 use Rattle.ps_model.specs.declared.world.SubRow.{SubRow}
 use Rattle.ps_model.specs.declared.world.MessageRow.{MessageRow}
-use Rattle.ps_model.specs.Masks.{default_topic, default_sub}
+use Rattle.ps_config.specs.Masks.{default_topic, default_sub}
 use Rattle.ps_model.specs.Worlds.{sub_numbered, message_numbered}
 use Rattle.ps_model.specs.Standing.{Standing, InBacklog, IsOut, IsAcknowledged, IsDeadLettered, HasExpired, standing, standing_with}
 use Rattle.ps_model.specs.Step.{empty_world}

@@ -1,12 +1,12 @@
 -- Worked examples: subscriptions that are made, read, changed and deleted.
 use Rattle.std.specs.Prelude.{ℕ, ◌≡◌, true, false, List, [], ◌∷◌, ◌++◌, Option, Some, None, codes}
 use Rattle.ps_base.specs.declared.reason.Reason.TheVariants.{UpdateMask}
-use Rattle.ps_model.specs.declared.config.SubConfig.{SubConfig}
+use Rattle.ps_config.specs.declared.config.SubConfig.{SubConfig}
 use Rattle.ps_model.specs.declared.command.Command.TheVariants.{CreateSubscription, UpdateSubscription, GetSubscription, DeleteSubscription}
 use Rattle.ps_model.specs.declared.command.Entry.{Entry}
 use Rattle.ps_model.specs.declared.reply.Reply.{Reply}
 use Rattle.ps_model.specs.declared.reply.Reply.TheVariants.{Empty, Subscription}
-use Rattle.ps_model.specs.Masks.{default_sub}
+use Rattle.ps_config.specs.Masks.{default_sub}
 use Rattle.ps_model.specs.Samples.{Call, told, recorded_of, counted, base, base_with, hi, publish_at, topic_name, sub_name, broken_by, none_named, taken_already, noted}
 use Rattle.ps_model.specs.PublishExamples.{only_topic, keeping_topic}
 

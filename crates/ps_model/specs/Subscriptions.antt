@@ -3,9 +3,9 @@ use Rattle.std.specs.Prelude.{ℕ, ◌+◌, true, false, ◌&&◌, not, nat_eq, 
 use Rattle.ps_base.specs.declared.refusal.Refusal.TheVariants.{NotFound, AlreadyExists}
 use Rattle.ps_model.specs.declared.mark.Mark.TheVariants.{Done}
 use Rattle.ps_model.specs.declared.mark.DoneCause.TheVariants.{Acknowledged}
-use Rattle.ps_model.specs.declared.config.SubConfig.{SubConfig}
-use Rattle.ps_model.specs.declared.config.DeadLetterPolicy.{DeadLetterPolicy}
-use Rattle.ps_model.specs.declared.config.Mask.{Mask}
+use Rattle.ps_config.specs.declared.config.SubConfig.{SubConfig}
+use Rattle.ps_config.specs.declared.config.DeadLetterPolicy.{DeadLetterPolicy}
+use Rattle.ps_config.specs.declared.mask.Mask.{Mask}
 use Rattle.ps_model.specs.declared.reply.Reply.TheVariants.{Empty, Subscription}
 use Rattle.ps_model.specs.declared.world.World.{World}
 use Rattle.ps_model.specs.declared.world.TopicRow.{TopicRow}
@@ -15,7 +15,7 @@ use Rattle.ps_model.specs.declared.world.MarkRow.{MarkRow}
 use Rattle.ps_model.specs.Retention.{is_within, lapsed}
 use Rattle.ps_model.specs.Filters.{meets}
 use Rattle.ps_model.specs.Showing.{sub_shown}
-use Rattle.ps_model.specs.Masks.{has_bit, masked_sub}
+use Rattle.ps_config.specs.Masks.{has_bit, masked_sub}
 use Rattle.ps_model.specs.Worlds.{topic_named, sub_named, put_sub, remark_at}
 use Rattle.ps_model.specs.Outcomes.{Outcome, Shows, answers, refuses}
 

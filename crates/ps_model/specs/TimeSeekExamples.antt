@@ -1,10 +1,10 @@
 -- Worked examples: seeks to a time.
 use Rattle.std.specs.Prelude.{ℕ, ◌≡◌, true, false, List, [], ◌∷◌, ◌++◌, None}
 use Rattle.ps_base.specs.declared.reason.Reason.TheVariants.{Detached}
-use Rattle.ps_model.specs.declared.config.SubConfig.{SubConfig}
+use Rattle.ps_config.specs.declared.config.SubConfig.{SubConfig}
 use Rattle.ps_model.specs.declared.command.Command.TheVariants.{CreateSubscription, SeekTime}
 use Rattle.ps_model.specs.declared.reply.Reply.TheVariants.{Empty, Acked}
-use Rattle.ps_model.specs.Masks.{default_sub}
+use Rattle.ps_config.specs.Masks.{default_sub}
 use Rattle.ps_model.specs.Samples.{Call, told, recorded_of, counted, base, base_with, hi, publish_at, pull_at, id, ack_at, modify_at, out, plain_answer, topic_name, sub_name, none_named, not_allowed, noted}
 use Rattle.ps_model.specs.PublishExamples.{keeping_topic}
 use Rattle.ps_model.specs.RefusalExamples.{detached}

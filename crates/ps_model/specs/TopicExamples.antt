@@ -1,12 +1,12 @@
 -- Worked examples: topics that are made, read, changed and deleted.
 use Rattle.std.specs.Prelude.{ℕ, ◌≡◌, List, [], ◌∷◌, ◌++◌, Option, Some, None, codes}
 use Rattle.ps_base.specs.declared.reason.Reason.TheVariants.{UpdateMask, MessageRetentionDuration}
-use Rattle.ps_model.specs.declared.config.TopicConfig.{TopicConfig}
+use Rattle.ps_config.specs.declared.config.TopicConfig.{TopicConfig}
 use Rattle.ps_model.specs.declared.command.Command.TheVariants.{CreateTopic, UpdateTopic, GetTopic, DeleteTopic}
 use Rattle.ps_model.specs.declared.command.Entry.{Entry}
 use Rattle.ps_model.specs.declared.reply.Reply.{Reply}
 use Rattle.ps_model.specs.declared.reply.Reply.TheVariants.{Empty, Topic}
-use Rattle.ps_model.specs.Masks.{default_topic}
+use Rattle.ps_config.specs.Masks.{default_topic}
 use Rattle.ps_model.specs.Samples.{Call, told, recorded_of, topic_name, broken_by, none_named, taken_already, noted}
 use Rattle.ps_model.specs.PublishExamples.{only_topic, keeping_topic}
 

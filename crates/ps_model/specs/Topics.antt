@@ -1,13 +1,13 @@
 -- Topics, and what is published to them (API reference, Topic and Publish; Pub/Sub documentation, "Publish messages to topics").
 use Rattle.std.specs.Prelude.{ℕ, ◌+◌, not, nat_eq, List, [], ◌∷◌, ◌++◌, Option, Some, None, filter, length}
 use Rattle.ps_base.specs.declared.refusal.Refusal.TheVariants.{NotFound, AlreadyExists}
-use Rattle.ps_model.specs.declared.config.TopicConfig.{TopicConfig}
-use Rattle.ps_model.specs.declared.config.Mask.{Mask}
+use Rattle.ps_config.specs.declared.config.TopicConfig.{TopicConfig}
+use Rattle.ps_config.specs.declared.mask.Mask.{Mask}
 use Rattle.ps_message.specs.declared.message.Message.{Message}
 use Rattle.ps_model.specs.declared.reply.Reply.TheVariants.{Empty, Topic, Published}
 use Rattle.ps_model.specs.declared.world.World.{World}
 use Rattle.ps_model.specs.declared.world.TopicRow.{TopicRow}
-use Rattle.ps_model.specs.Masks.{masked_topic}
+use Rattle.ps_config.specs.Masks.{masked_topic}
 use Rattle.ps_model.specs.Showing.{topic_shown}
 use Rattle.ps_model.specs.Worlds.{topic_named, put_topic}
 use Rattle.ps_model.specs.Forwarding.{add_messages, message_rows}

@@ -1,8 +1,8 @@
 ghost use Rattle.std.specs.Prelude.{◌≡◌, true, IfOk};
 ghost use Rattle.ps_model.specs.Families.{is_topic_command, is_subscription_command, is_delivery_command, is_snapshot_command, is_list_command};
 
-use crate::config::{Mask, SubConfig, TopicConfig};
 use ps_base::{AckId, Duplicate, Labels, List, OutOfMemory, Text};
+use ps_config::{Mask, SubConfig, TopicConfig};
 use ps_message::Message;
 use ps_names::{ProjectName, SnapName, SubName, TopicName};
 use std::alloc::Global;

@@ -1,8 +1,8 @@
 use crate::command::Command;
-use crate::config::{DeadLetterPolicy, RetryPolicy, SubConfig, TopicConfig};
 use crate::forms::Form;
 use ps_base::{AckId, Duplicate, Labels, List, Octets, OutOfMemory, Text};
 use ps_codec::{FieldReader, FieldWriter};
+use ps_config::{DeadLetterPolicy, RetryPolicy, SubConfig, TopicConfig};
 use ps_message::Message;
 use ps_names::{SnapName, SubName, TopicName};
 use std::alloc::Global;

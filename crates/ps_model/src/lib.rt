@@ -2,7 +2,6 @@
 #![tactic(auto)]
 
 mod command;
-mod config;
 mod examples;
 mod forms;
 mod hold;
@@ -13,7 +12,6 @@ mod stat;
 mod world;
 
 pub use command::{Command, Entry, Paging};
-pub use config::{DeadLetterPolicy, Mask, RetryPolicy, SubConfig, TopicConfig};
 pub use examples::{
     acknowledge_examples, dead_letter_examples, dead_standing_examples, deadline_examples,
     detach_examples, falling_back_examples, filter_examples, filter_fault_examples,
@@ -29,6 +27,7 @@ pub use forms::Form;
 pub use hold::{Hold, Holds};
 pub use laws::{law_5, law_forms, law_in_turn, law_starts_sound};
 pub use mark::{DeadLetter, DoneCause, GoneCause, Handed, Item, Mark, Slot, Ticket};
+pub use ps_config::{DeadLetterPolicy, Mask, RetryPolicy, SubConfig, TopicConfig};
 pub use ps_names::{ProjectName, SnapName, SubName, TopicName};
 pub use reply::{PageItems, ReceivedMessage, Reply, SnapShown, SubShown, TopicShown};
 pub use stat::Stat;
@@ -36,5 +35,3 @@ pub use world::{MarkRow, MessageRow, SnapRow, SubRow, TopicRow, World};
 
 #[cfg(test)]
 mod forms_tests;
-#[cfg(test)]
-mod tests;

@@ -1,5 +1,5 @@
-use crate::config::{SubConfig, TopicConfig};
 use ps_base::{AckId, Labels, List, Refusal, Text};
+use ps_config::{SubConfig, TopicConfig};
 use ps_message::Message;
 
 /// What a caller is told.

@@ -1,6 +1,6 @@
-use crate::config::{SubConfig, TopicConfig};
 use crate::mark::Mark;
 use ps_base::{Labels, List};
+use ps_config::{SubConfig, TopicConfig};
 use ps_message::Message;
 use ps_names::{SnapName, SubName, TopicName};
 

@@ -6,8 +6,8 @@ use Rattle.ps_model.specs.declared.mark.Mark.{Mark}
 use Rattle.ps_model.specs.declared.mark.Mark.TheVariants.{Backlog, Leased, Ahead, Done, Gone}
 use Rattle.ps_model.specs.declared.mark.Slot.{Slot}
 use Rattle.ps_model.specs.declared.mark.DeadLetter.{DeadLetter}
-use Rattle.ps_model.specs.declared.config.SubConfig.{SubConfig}
-use Rattle.ps_model.specs.declared.config.DeadLetterPolicy.{DeadLetterPolicy}
+use Rattle.ps_config.specs.declared.config.SubConfig.{SubConfig}
+use Rattle.ps_config.specs.declared.config.DeadLetterPolicy.{DeadLetterPolicy}
 use Rattle.ps_model.specs.declared.hold.Holds.{Holds}
 use Rattle.ps_model.specs.declared.world.World.{World}
 use Rattle.ps_model.specs.declared.world.SubRow.{SubRow}

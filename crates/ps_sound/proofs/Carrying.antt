@@ -10,9 +10,9 @@ use Rattle.ps_base.specs.declared.refusal.Refusal.TheVariants.{Exhausted, Failed
 use Rattle.ps_message.specs.declared.message.Message.{Message}
 use Rattle.ps_message.specs.Lists.{is_empty}
 use Rattle.ps_message.specs.Messages.{broken}
-use Rattle.ps_model.specs.declared.config.TopicConfig.{TopicConfig}
-use Rattle.ps_model.specs.declared.config.SubConfig.{SubConfig}
-use Rattle.ps_model.specs.declared.config.Mask.{Mask}
+use Rattle.ps_config.specs.declared.config.TopicConfig.{TopicConfig}
+use Rattle.ps_config.specs.declared.config.SubConfig.{SubConfig}
+use Rattle.ps_config.specs.declared.mask.Mask.{Mask}
 use Rattle.ps_model.specs.declared.command.Command.{Command}
 use Rattle.ps_model.specs.declared.command.Command.TheVariants.{Tick, CreateTopic, UpdateTopic, GetTopic, DeleteTopic, ListTopics, ListTopicSubscriptions, ListTopicSnapshots, Publish, CreateSubscription, UpdateSubscription, GetSubscription, DeleteSubscription, ListSubscriptions, Pull, Acknowledge, ModifyAckDeadline, SeekTime, SeekSnapshot, Detach, CreateSnapshot, UpdateSnapshot, GetSnapshot, DeleteSnapshot, ListSnapshots}
 use Rattle.ps_model.specs.declared.command.Paging.{Paging}
@@ -21,7 +21,7 @@ use Rattle.ps_model.specs.declared.world.World.{World}
 use Rattle.ps_model.specs.declared.world.TopicRow.{TopicRow}
 use Rattle.ps_model.specs.declared.world.SubRow.{SubRow}
 use Rattle.ps_model.specs.declared.world.SnapRow.{SnapRow}
-use Rattle.ps_model.specs.Masks.{whole_mask, is_mask, default_topic, default_sub, masked_topic, masked_sub, has_bit}
+use Rattle.ps_config.specs.Masks.{whole_mask, is_mask, default_topic, default_sub, masked_topic, masked_sub, has_bit}
 use Rattle.ps_model.specs.Worlds.{topic_named, topic_numbered, sub_named, snap_named, with_slots_at, slots_of}
 use Rattle.ps_model.specs.Outcomes.{Outcome, answers, refuses}
 use Rattle.ps_model.specs.Topics.{create_topic_at, update_topic_at, get_topic_at, delete_topic_at, publish_at}
@@ -32,7 +32,8 @@ use Rattle.ps_model.specs.Replaying.{held_items, seek_list, seek_time_in, seek_t
 use Rattle.ps_model.specs.Snapshots.{new_snap, create_snap_in, create_snap_at, update_snap_at, get_snap_at, delete_snap_at}
 use Rattle.ps_model.specs.Showing.{snap_shown}
 use Rattle.ps_model.specs.Listing.{topic_subs_at, topic_snaps_at}
-use Rattle.ps_model.specs.Checks.{topic_fault, sub_fault, new_sub_fault, labels_fault, has_long_deadline, argument_fault, as_read, lease_seconds}
+use Rattle.ps_config.specs.Limits.{topic_fault, sub_fault, labels_fault}
+use Rattle.ps_model.specs.Checks.{new_sub_fault, has_long_deadline, argument_fault, as_read, lease_seconds}
 use Rattle.ps_model.specs.Commands.{carried, is_full, checked, outcome}
 use Rattle.ps_model.specs.Forwarding.{forward}
 use Rattle.ps_model.specs.Settling.{expunge_world}

@@ -13,7 +13,7 @@ use Rattle.ps_model.specs.declared.mark.DoneCause.TheVariants.{Acknowledged}
 use Rattle.ps_model.specs.declared.mark.Slot.{Slot}
 use Rattle.ps_model.specs.declared.mark.Handed.{Handed}
 use Rattle.ps_model.specs.declared.mark.Ticket.{Ticket}
-use Rattle.ps_model.specs.declared.config.SubConfig.{SubConfig}
+use Rattle.ps_config.specs.declared.config.SubConfig.{SubConfig}
 use Rattle.ps_model.specs.declared.reply.ReceivedMessage.{ReceivedMessage}
 use Rattle.ps_model.specs.declared.world.World.{World}
 use Rattle.ps_model.specs.declared.world.SubRow.{SubRow}

@@ -6,7 +6,7 @@ use Rattle.std.proofs.lemmas.Bool.{cond_both, both_ways, and_parts, and_cases, o
 use Rattle.ps_model.specs.declared.mark.Mark.{Mark}
 use Rattle.ps_model.specs.declared.mark.Mark.TheVariants.{Backlog, Leased, Ahead, Done, Gone}
 use Rattle.ps_model.specs.declared.mark.Slot.{Slot}
-use Rattle.ps_model.specs.declared.config.SubConfig.{SubConfig}
+use Rattle.ps_config.specs.declared.config.SubConfig.{SubConfig}
 use Rattle.ps_model.specs.declared.hold.Holds.{Holds}
 use Rattle.ps_model.specs.declared.world.World.{World}
 use Rattle.ps_model.specs.declared.world.SubRow.{SubRow}

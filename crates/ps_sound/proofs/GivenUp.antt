@@ -11,7 +11,7 @@ use Rattle.ps_model.specs.declared.mark.Mark.TheVariants.{Backlog, Leased, Ahead
 use Rattle.ps_model.specs.declared.mark.DoneCause.TheVariants.{Dead}
 use Rattle.ps_model.specs.declared.mark.Slot.{Slot}
 use Rattle.ps_model.specs.declared.mark.Ticket.{Ticket}
-use Rattle.ps_model.specs.declared.config.SubConfig.{SubConfig}
+use Rattle.ps_config.specs.declared.config.SubConfig.{SubConfig}
 use Rattle.ps_model.specs.declared.world.World.{World}
 use Rattle.ps_model.specs.declared.world.SubRow.{SubRow}
 use Rattle.ps_model.specs.declared.world.MarkRow.{MarkRow}

@@ -5,7 +5,7 @@ use Rattle.std.specs.Str.{bytes_eq}
 use Rattle.std.proofs.lemmas.Bool.{eqb-true, ne_eqb, eq-eqb}
 use Rattle.ps_model.specs.declared.mark.DeadLetter.{DeadLetter}
 use Rattle.ps_model.specs.declared.mark.Slot.{Slot}
-use Rattle.ps_model.specs.declared.config.DeadLetterPolicy.{DeadLetterPolicy}
+use Rattle.ps_config.specs.declared.config.DeadLetterPolicy.{DeadLetterPolicy}
 use Rattle.ps_model.specs.declared.world.World.{World}
 use Rattle.ps_model.specs.declared.world.TopicRow.{TopicRow}
 use Rattle.ps_model.specs.declared.world.SubRow.{SubRow}

@@ -10,13 +10,14 @@ use Rattle.ps_model.specs.declared.mark.Mark.{Mark}
 use Rattle.ps_model.specs.declared.mark.Mark.TheVariants.{Backlog, Leased, Ahead, Done, Gone}
 use Rattle.ps_model.specs.declared.mark.Slot.{Slot}
 use Rattle.ps_model.specs.declared.mark.Handed.{Handed}
-use Rattle.ps_model.specs.declared.config.SubConfig.{SubConfig}
+use Rattle.ps_config.specs.declared.config.SubConfig.{SubConfig}
 use Rattle.ps_model.specs.declared.world.World.{World}
 use Rattle.ps_model.specs.declared.world.SubRow.{SubRow}
 use Rattle.ps_model.specs.declared.world.MarkRow.{MarkRow}
-use Rattle.ps_model.specs.Masks.{whole_mask}
+use Rattle.ps_config.specs.Masks.{whole_mask}
 use Rattle.ps_model.specs.Filters.{meets}
-use Rattle.ps_model.specs.Checks.{new_sub_fault, lease_seconds, is_outside, sub_checks_before_filter, filter_setting_fault, sub_checks_behind_filter}
+use Rattle.ps_config.specs.Limits.{is_outside, sub_checks_before_filter, sub_checks_behind_filter}
+use Rattle.ps_model.specs.Checks.{new_sub_fault, lease_seconds, filter_setting_fault}
 use Rattle.ps_model.specs.Slots.{is_gone, is_leased, is_backlog, is_earlier, any_earlier}
 use Rattle.ps_model.specs.Choice.{is_ready, is_waiting, is_deliverable, deliverable, choice, handed, lease_in, leased_as, lent_mark}
 use Rattle.ps_model.specs.Worlds.{sub_named, sub_numbered, message_at, put_sub, remark_row, remark_at, rows_of, slot_of, slots_of}

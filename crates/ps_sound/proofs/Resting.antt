@@ -5,7 +5,7 @@ use Rattle.std.proofs.lemmas.Bool.{lt-leb, and_right, cond_both, or_right, not_f
 use Rattle.ps_model.specs.declared.mark.Mark.{Mark}
 use Rattle.ps_model.specs.declared.mark.Mark.TheVariants.{Backlog, Leased, Ahead, Done, Gone}
 use Rattle.ps_model.specs.declared.mark.Slot.{Slot}
-use Rattle.ps_model.specs.declared.config.SubConfig.{SubConfig}
+use Rattle.ps_config.specs.declared.config.SubConfig.{SubConfig}
 use Rattle.ps_model.specs.declared.hold.Holds.{Holds}
 use Rattle.ps_model.specs.declared.world.World.{World}
 use Rattle.ps_model.specs.declared.world.SubRow.{SubRow}

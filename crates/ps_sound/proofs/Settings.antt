@@ -5,13 +5,14 @@ use Rattle.std.proofs.lemmas.Bool.{or_parts, ltb-false}
 use Rattle.ps_base.specs.declared.reason.Reason.{Reason}
 use Rattle.ps_message.specs.Lists.{first_of}
 use Rattle.ps_message.specs.Messages.{broken}
-use Rattle.ps_model.specs.declared.config.TopicConfig.{TopicConfig}
-use Rattle.ps_model.specs.declared.config.SubConfig.{SubConfig}
-use Rattle.ps_model.specs.declared.config.RetryPolicy.{RetryPolicy}
+use Rattle.ps_config.specs.declared.config.TopicConfig.{TopicConfig}
+use Rattle.ps_config.specs.declared.config.SubConfig.{SubConfig}
+use Rattle.ps_config.specs.declared.config.RetryPolicy.{RetryPolicy}
 use Rattle.ps_base.specs.declared.reason.Reason.TheVariants.{MessageRetentionDuration, AckDeadlineSeconds, ExpirationPolicy, MaxDeliveryAttempts, RetryPolicy as ForRetryPolicy}
-use Rattle.ps_model.specs.declared.config.Mask.{Mask}
-use Rattle.ps_model.specs.Masks.{whole_mask, has_bit, masked_topic, masked_sub}
-use Rattle.ps_model.specs.Checks.{labels_fault, if_masked, is_outside, is_outside_where_set, least_retention, most_retention, topic_fault, sub_fault, new_sub_fault, has_bad_attempts, has_bad_delays, sub_checks_before_filter, filter_setting_fault, sub_checks_behind_filter}
+use Rattle.ps_config.specs.declared.mask.Mask.{Mask}
+use Rattle.ps_config.specs.Masks.{whole_mask, has_bit, masked_topic, masked_sub}
+use Rattle.ps_config.specs.Limits.{labels_fault, if_masked, is_outside, is_outside_where_set, least_retention, most_retention, topic_fault, sub_fault, has_bad_attempts, has_bad_delays, sub_checks_before_filter, sub_checks_behind_filter}
+use Rattle.ps_model.specs.Checks.{new_sub_fault, filter_setting_fault}
 
 -- where no check is broken, none is
 pub first-none : {A : Type 0} (checks : List (Option A)) → first_of checks ≡ None → AllByRecursion (λ check. check ≡ None) checks

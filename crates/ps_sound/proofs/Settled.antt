@@ -11,7 +11,7 @@ use Rattle.ps_model.specs.declared.world.MessageRow.{MessageRow}
 use Rattle.ps_model.specs.declared.world.MarkRow.{MarkRow}
 use Rattle.ps_model.specs.Lists.{tally}
 use Rattle.ps_model.specs.Failing.{dead_letter, dead_letters, is_due}
-use Rattle.ps_model.specs.Checks.{labels_fault}
+use Rattle.ps_config.specs.Limits.{labels_fault}
 use Rattle.ps_model.specs.Worlds.{sub_numbered, slot_of, slots_of}
 use Rattle.ps_model.specs.Forwarding.{Letter, letter_rows, letters_of, dead_topic, forward}
 use Rattle.ps_model.specs.Settling.{drop_snapshots, end_leases, ended_letters, expunge_world, settle}

@@ -11,7 +11,7 @@ use Rattle.ps_model.specs.declared.world.SubRow.{SubRow}
 use Rattle.ps_model.specs.declared.world.SnapRow.{SnapRow}
 use Rattle.ps_model.specs.declared.world.MarkRow.{MarkRow}
 use Rattle.ps_model.specs.declared.world.MessageRow.{MessageRow}
-use Rattle.ps_model.specs.Checks.{labels_fault}
+use Rattle.ps_config.specs.Limits.{labels_fault}
 use Rattle.ps_model.specs.Slots.{is_gone, is_unacked}
 use Rattle.ps_model.specs.Worlds.{sub_named, snap_named, sub_numbered, message_numbered, message_at, no_message, slot_of, slots_of}
 use Rattle.ps_model.specs.Snapshots.{open_slots, oldest, new_snap}

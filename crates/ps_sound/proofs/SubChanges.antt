@@ -4,13 +4,14 @@ use Rattle.std.specs.List.{AllByRecursion}
 use Rattle.std.specs.Str.{bytes_eq}
 use Rattle.std.proofs.lemmas.Bool.{cond_both, both_ways, eqb-true}
 use Rattle.ps_model.specs.declared.mark.Mark.{Mark}
-use Rattle.ps_model.specs.declared.config.SubConfig.{SubConfig}
-use Rattle.ps_model.specs.declared.config.Mask.{Mask}
+use Rattle.ps_config.specs.declared.config.SubConfig.{SubConfig}
+use Rattle.ps_config.specs.declared.mask.Mask.{Mask}
 use Rattle.ps_model.specs.declared.world.World.{World}
 use Rattle.ps_model.specs.declared.world.SubRow.{SubRow}
 use Rattle.ps_model.specs.declared.world.MarkRow.{MarkRow}
-use Rattle.ps_model.specs.Masks.{masked_sub}
-use Rattle.ps_model.specs.Checks.{new_sub_fault, sub_fault}
+use Rattle.ps_config.specs.Masks.{masked_sub}
+use Rattle.ps_config.specs.Limits.{sub_fault}
+use Rattle.ps_model.specs.Checks.{new_sub_fault}
 use Rattle.ps_model.specs.Slots.{is_gone, is_leased, is_backlog}
 use Rattle.ps_model.specs.Retention.{lapsed}
 use Rattle.ps_model.specs.Worlds.{sub_named, sub_numbered, put_sub, remark_at}

@@ -2,12 +2,12 @@
 use Rattle.std.proofs.Common.{ℕ, ◌≡◌, ◌≢◌, ◌+◌, ◌<◌, ◌≤◌, Bool, not, nat_eq, List, [], ◌∷◌, ◌++◌, Some, None, map, filter, refl, sym, subst, arith, if◌then◌else◌}
 use Rattle.std.specs.Str.{bytes_eq}
 use Rattle.std.proofs.lemmas.Bool.{cond_both}
-use Rattle.ps_model.specs.declared.config.TopicConfig.{TopicConfig}
-use Rattle.ps_model.specs.declared.config.Mask.{Mask}
+use Rattle.ps_config.specs.declared.config.TopicConfig.{TopicConfig}
+use Rattle.ps_config.specs.declared.mask.Mask.{Mask}
 use Rattle.ps_model.specs.declared.world.World.{World}
 use Rattle.ps_model.specs.declared.world.TopicRow.{TopicRow}
-use Rattle.ps_model.specs.Masks.{whole_mask, masked_topic}
-use Rattle.ps_model.specs.Checks.{topic_fault}
+use Rattle.ps_config.specs.Masks.{whole_mask, masked_topic}
+use Rattle.ps_config.specs.Limits.{topic_fault}
 use Rattle.ps_model.specs.Worlds.{topic_named, put_topic}
 use Rattle.ps_sound.proofs.Lists.{each-then, each-map, each-left, each-behind, other-names, ordered-map, ordered-filter, ordered-behind, found-numbered, put-same}
 use Rattle.ps_sound.proofs.Settings.{masked-topic-checked}

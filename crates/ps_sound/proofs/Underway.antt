@@ -10,8 +10,9 @@ use Rattle.ps_model.specs.declared.world.SnapRow.{SnapRow}
 use Rattle.ps_model.specs.declared.world.MessageRow.{MessageRow}
 use Rattle.ps_model.specs.declared.world.MarkRow.{MarkRow}
 use Rattle.ps_model.specs.Slots.{is_gone, is_leased, is_backlog, is_earlier}
-use Rattle.ps_model.specs.Masks.{whole_mask}
-use Rattle.ps_model.specs.Checks.{topic_fault, new_sub_fault, labels_fault}
+use Rattle.ps_config.specs.Masks.{whole_mask}
+use Rattle.ps_config.specs.Limits.{topic_fault, labels_fault}
+use Rattle.ps_model.specs.Checks.{new_sub_fault}
 use Rattle.ps_model.specs.Retention.{holds}
 use Rattle.ps_model.specs.Worlds.{sub_numbered, message_at, slot_of, holds_of}
 use Rattle.ps_model.specs.Settling.{is_wanted}

@@ -4,7 +4,7 @@ use Rattle.std.proofs.lemmas.Bool.{false≢true, or_parts, not-false}
 use Rattle.ps_model.specs.declared.mark.Slot.{Slot}
 use Rattle.ps_model.specs.declared.mark.Mark.{Mark}
 use Rattle.ps_model.specs.declared.mark.Mark.TheVariants.{Ahead}
-use Rattle.ps_model.specs.declared.config.SubConfig.{SubConfig}
+use Rattle.ps_config.specs.declared.config.SubConfig.{SubConfig}
 use Rattle.ps_model.specs.Same.{same_mark}
 use Rattle.ps_model.specs.Slots.{remark, remarked}
 use Rattle.ps_model.proofs.SameLemmas.{exact-mark}

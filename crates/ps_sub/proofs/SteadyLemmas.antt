@@ -5,14 +5,15 @@ use Rattle.std.proofs.lemmas.Bool.{or_parts, or_from, cond_both}
 use Rattle.std.proofs.lemmas.List.Folds.{list_any-append}
 use Rattle.ps_base.specs.declared.reason.Reason.{Reason}
 use Rattle.ps_message.specs.Lists.{first_of}
-use Rattle.ps_model.specs.declared.config.SubConfig.{SubConfig}
+use Rattle.ps_config.specs.declared.config.SubConfig.{SubConfig}
 use Rattle.ps_model.specs.declared.mark.Slot.{Slot}
 use Rattle.ps_model.specs.declared.mark.Mark.{Mark}
 use Rattle.ps_model.specs.declared.mark.Mark.TheVariants.{Backlog, Leased, Ahead, Done, Gone}
 use Rattle.ps_model.specs.declared.mark.Ticket.{Ticket}
 use Rattle.ps_model.specs.declared.mark.Handed.{Handed}
-use Rattle.ps_model.specs.Checks.{new_sub_fault, has_bad_delays, has_bad_attempts, sub_checks_before_filter, sub_checks_behind_filter, filter_setting_fault}
-use Rattle.ps_model.specs.Masks.{whole_mask}
+use Rattle.ps_config.specs.Limits.{has_bad_delays, has_bad_attempts, sub_checks_before_filter, sub_checks_behind_filter}
+use Rattle.ps_model.specs.Checks.{new_sub_fault, filter_setting_fault}
+use Rattle.ps_config.specs.Masks.{whole_mask}
 use Rattle.ps_message.specs.Messages.{broken}
 use Rattle.ps_base.specs.declared.reason.Reason.TheVariants.{RetryPolicy, MaxDeliveryAttempts}
 use Rattle.ps_model.specs.declared.mark.DoneCause.TheVariants.{Acknowledged}

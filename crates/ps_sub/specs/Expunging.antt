@@ -1,6 +1,6 @@
 -- What the moment alone brings to one subscription.
 use Rattle.std.specs.Prelude.{ℕ, Bool, ◌||◌, not, List, if◌then◌else◌}
-use Rattle.ps_model.specs.declared.config.SubConfig.{SubConfig}
+use Rattle.ps_config.specs.declared.config.SubConfig.{SubConfig}
 use Rattle.ps_model.specs.declared.hold.Holds.{Holds}
 use Rattle.ps_model.specs.declared.mark.Mark.{Mark}
 use Rattle.ps_model.specs.declared.mark.Slot.{Slot}

@@ -1,9 +1,9 @@
 -- What holds of every subscription, also of a spent one.
 use Rattle.std.specs.Prelude.{◌≡◌, ◌<◌, false, List}
 use Rattle.std.specs.List.{list_any}
-use Rattle.ps_model.specs.declared.config.SubConfig.{SubConfig}
+use Rattle.ps_config.specs.declared.config.SubConfig.{SubConfig}
 use Rattle.ps_model.specs.declared.mark.Slot.{Slot}
-use Rattle.ps_model.specs.Checks.{has_bad_delays}
+use Rattle.ps_config.specs.Limits.{has_bad_delays}
 use Rattle.ps_model.specs.Slots.{is_gone}
 use Rattle.ps_model.specs.Sound.{Ordered}
 

@@ -1,7 +1,7 @@
 ghost use Rattle.std.specs.Prelude.{◌≡◌, ◌+◌, ◌-◌, ◌*◌, ◌^◌, ◌≤◌, min, map, false, IfOk};
 ghost use Rattle.std.specs.List.{list_any};
 ghost use Rattle.ps_base.specs.Moments.{last_moment};
-ghost use Rattle.ps_model.specs.Checks.{has_bad_delays};
+ghost use Rattle.ps_config.specs.Limits.{has_bad_delays};
 ghost use Rattle.ps_model.specs.Failing.{one_more, retry_at, is_dead, failed, fallen, mark_after_failing, dead_letter, dead_letters, is_due};
 ghost use Rattle.ps_model.specs.Slots.{any_earlier};
 ghost use Rattle.ps_sub.specs.Steady.{HasShortDelays};

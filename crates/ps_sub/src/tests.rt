@@ -1,7 +1,6 @@
 ghost use Rattle.std.specs.Prelude.{◌≡◌, ◌+◌, ◌<◌, ◌≤◌, ◌^◌, None, IfOk, length};
 ghost use Rattle.ps_model.specs.Checks.{new_sub_fault};
-ghost use Rattle.ps_model.specs.Masks.{default_sub};
-ghost use Rattle.ps_model.specs.Masks.{default_sub};
+ghost use Rattle.ps_config.specs.Masks.{default_sub};
 
 use super::*;
 use ps_base::{Labels, List, Text};

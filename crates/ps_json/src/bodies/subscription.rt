@@ -1,7 +1,6 @@
 // The creation of a subscription.
 ghost use Rattle.std.specs.Prelude.{◌≡◌};
 ghost use Rattle.serde_json.specs.View.{members_view};
-ghost use Rattle.ps_model.specs.Masks as masks;
 ghost use Rattle.ps_json.specs.Checks.{Reads, checked};
 ghost use Rattle.ps_json.specs.Creations.{subscription_checks, subscription_command};
 
@@ -9,20 +8,11 @@ use crate::bodies::topic::names_another;
 use crate::kinds::text;
 use crate::read_error::{ReadError, refused, shape};
 use crate::tables::{Table, least_unknown};
-use ps_base::{Labels, Reason, Text};
+use ps_base::Reason;
 use ps_model::{Command, SubConfig};
 use ps_names::{SubName, TopicName};
 use serde_json::{Map, Value};
 use std::alloc::Global;
-
-/// How many seconds a lease lives.
-const ACK_SECONDS: u32 = 10;
-
-/// How long messages are kept, in milliseconds: 7 days.
-const RETENTION: u64 = 604_800_000;
-
-/// How long a subscription lives without use, in milliseconds: 31 days.
-const EXPIRATION: u64 = 2_678_400_000;
 
 /// The command that creates the subscription of this name, or the first check that is broken.
 pub fn create_subscription(
@@ -55,24 +45,6 @@ pub fn create_subscription(
     Ok(Command::CreateSubscription {
         subscription,
         topic,
-        config: default_sub(alloc),
+        config: SubConfig::new(alloc),
     })
-}
-
-/// The settings of a subscription that asks for none.
-fn default_sub(alloc: Global) -> SubConfig
-    ensures { result ≡ masks.default_sub }
-{
-    SubConfig {
-        ack_seconds: ACK_SECONDS,
-        retain_acked: false,
-        retention: RETENTION,
-        labels: Labels::new(alloc),
-        ordering: false,
-        expiration: Some(EXPIRATION),
-        filter: Text::from_string(String::new(alloc)),
-        dead_letter: None,
-        retry: None,
-        exactly_once: false,
-    }
 }

@@ -2,14 +2,13 @@
 ghost use Rattle.std.specs.Prelude.{◌≡◌, codes};
 ghost use Rattle.serde_json.specs.Find.{get_member};
 ghost use Rattle.serde_json.specs.View.{members_view};
-ghost use Rattle.ps_model.specs.Masks as masks;
 ghost use Rattle.ps_json.specs.Checks.{Reads, checked};
 ghost use Rattle.ps_json.specs.Creations.{is_another, topic_checks, topic_command};
 
 use crate::fields::field;
 use crate::kinds::text;
 use crate::read_error::{ReadError, refused, shape};
-use ps_base::{Labels, Reason};
+use ps_base::Reason;
 use ps_model::{Command, TopicConfig};
 use ps_names::TopicName;
 use serde_json::{Map, Value};
@@ -35,7 +34,7 @@ pub fn create_topic(
     }
     Ok(Command::CreateTopic {
         topic,
-        config: default_topic(alloc),
+        config: TopicConfig::new(alloc),
     })
 }
 
@@ -47,15 +46,5 @@ pub fn names_another(fields: &Map<String, Value>, name: &str) -> bool
     match field(fields, "name") {
         Some(Value::String(text)) => text.as_str() != name,
         _ => false,
-    }
-}
-
-/// The settings of a topic that asks for none.
-fn default_topic(alloc: Global) -> TopicConfig
-    ensures { result ≡ masks.default_topic }
-{
-    TopicConfig {
-        labels: Labels::new(alloc),
-        retention: None,
     }
 }

@@ -1,7 +1,7 @@
-use crate::config::{DeadLetterPolicy, RetryPolicy, TopicConfig};
 use crate::forms::Form;
 use ps_base::{Labels, OutOfMemory, Text};
 use ps_codec::{FieldReader, FieldWriter};
+use ps_config::{DeadLetterPolicy, RetryPolicy, TopicConfig};
 use ps_names::TopicName;
 use std::alloc::Global;
 

@@ -1,10 +1,10 @@
 ghost use Rattle.std.specs.Prelude.{◌≡◌, ◌++◌, OnOk};
 ghost use Rattle.ps_model.specs.Forms.{lives_form, LivesFit, entering_form, EnteringFits, failing_form, FailingFits};
 
-use crate::config::{DeadLetterPolicy, RetryPolicy, SubConfig};
 use crate::forms::Form;
 use ps_base::{Labels, OutOfMemory, Text};
 use ps_codec::{FieldReader, FieldWriter};
+use ps_config::{DeadLetterPolicy, RetryPolicy, SubConfig};
 use std::alloc::Global;
 
 /// How long leases and messages live, and the labels.

@@ -64,4 +64,4 @@ returns c =
     ∙ (pass _ _ _ (all_known (paths c.args.fields.now.entries) (sym c.in_default-2.is ∙ c.in_ok-path.ensures))
     ∙ (pass _ _ _ (clear _ _ (sym c.names_another.ensures ∙ c.if-names_another.false))
     ∙ (pass _ _ _ (ap (λ name. broken (not (is_topic_name name)) Topic) (sym topic) ∙ good_name _ _ _ _ (sym c.in-Some-3.is ∙ c.in_ok-topic.ensures))
-    ∙ rw (same_name _ _ _ (sym c.in-Some.is ∙ c.in_ok-subscription.ensures), same_name _ _ _ (sym c.in-Some-3.is ∙ c.in_ok-topic.ensures), c.default_sub.ensures, topic))))))
+    ∙ rw (same_name _ _ _ (sym c.in-Some.is ∙ c.in_ok-subscription.ensures), same_name _ _ _ (sym c.in-Some-3.is ∙ c.in_ok-topic.ensures), c.new.ensures, topic))))))

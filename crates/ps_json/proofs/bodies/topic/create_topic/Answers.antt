@@ -20,4 +20,4 @@ returns c =
     pass _ _ _ (good_name _ _ _ _ (sym c.in-Some.is ∙ c.in_ok-topic.ensures))
     ∙ (pass _ _ _ (has_shape _ _ _ _ _ c.text.ensures c.is_none.ensures c.if-is_none.false)
     ∙ (pass _ _ _ (clear _ _ (sym c.names_another.ensures ∙ c.if-names_another.false))
-    ∙ rw (same_name _ _ _ (sym c.in-Some.is ∙ c.in_ok-topic.ensures), c.default_topic.ensures)))
+    ∙ rw (same_name _ _ _ (sym c.in-Some.is ∙ c.in_ok-topic.ensures), c.new.ensures)))

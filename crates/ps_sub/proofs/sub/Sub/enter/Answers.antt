@@ -2,7 +2,7 @@ use Rattle.std.proofs.Common.{◌≡◌, ◌<◌, ◌++◌, ◌∷◌, [], List,
 use Rattle.std.specs.List.{AllByRecursion}
 use Rattle.std.specs.Result.{OnOk, OnErr}
 use Rattle.ps_base.specs.declared.memory.OutOfMemory.{OutOfMemory}
-use Rattle.ps_model.specs.declared.config.SubConfig.{SubConfig}
+use Rattle.ps_config.specs.declared.config.SubConfig.{SubConfig}
 use Rattle.ps_model.specs.declared.mark.Slot.{Slot}
 use Rattle.ps_sub.specs.Marks.{live}
 use Rattle.ps_sub.specs.Steady.{IsSteady}

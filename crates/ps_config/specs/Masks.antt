@@ -1,8 +1,8 @@
 -- Masks of updates, and settings with the masked fields changed (API reference, UpdateTopic and UpdateSubscription; a bit for each field is this project's own).
 use Rattle.std.specs.Prelude.{ℕ, ◌/◌, ◌%◌, ◌^◌, Bool, false, not, ◌&&◌, nat_eq, nat_lt, [], Some, None, if◌then◌else◌}
-use Rattle.ps_model.specs.declared.config.TopicConfig.{TopicConfig}
-use Rattle.ps_model.specs.declared.config.SubConfig.{SubConfig}
-use Rattle.ps_model.specs.declared.config.Mask.{Mask}
+use Rattle.ps_config.specs.declared.config.TopicConfig.{TopicConfig}
+use Rattle.ps_config.specs.declared.config.SubConfig.{SubConfig}
+use Rattle.ps_config.specs.declared.mask.Mask.{Mask}
 
 -- Of a topic the bits from 0 are labels and retention. Of a subscription they are the seconds of a lease, whether acknowledged messages are retained, retention, labels, expiration, dead letters, retry, exactly-once mode, and push settings, which this project doesn't keep.
 abbrev pub has_bit : Mask → ℕ → Bool

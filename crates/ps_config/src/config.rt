@@ -1,3 +1,6 @@
+ghost use Rattle.std.specs.Prelude.{◌≡◌};
+ghost use Rattle.ps_config.specs.Masks.{default_topic, default_sub};
+
 use ps_base::{Duplicate, Labels, OutOfMemory, Text};
 use ps_names::TopicName;
 use std::alloc::Global;
@@ -48,9 +51,38 @@ pub struct SubConfig {
     pub exactly_once: bool,
 }
 
-/// Which fields an update names: a bit each, from the lowest one on.
-#[derive(Clone, Copy, PartialEq, Eq)]
-pub struct Mask(pub u32);
+impl TopicConfig {
+    /// The settings of a topic that asks for none.
+    pub fn new(alloc: Global) -> TopicConfig
+        ensures { result ≡ default_topic }
+    {
+        TopicConfig {
+            labels: Labels::new(alloc),
+            retention: None,
+        }
+    }
+}
+
+impl SubConfig {
+    /// The settings of a subscription that asks for none: leases of 10 seconds, messages kept for 7 days, and the
+    /// subscription itself for 31 days without use.
+    pub fn new(alloc: Global) -> SubConfig
+        ensures { result ≡ default_sub }
+    {
+        SubConfig {
+            ack_seconds: 10,
+            retain_acked: false,
+            retention: 604_800_000,
+            labels: Labels::new(alloc),
+            ordering: false,
+            expiration: Some(2_678_400_000),
+            filter: Text::from_string(String::new(alloc)),
+            dead_letter: None,
+            retry: None,
+            exactly_once: false,
+        }
+    }
+}
 
 impl Duplicate for TopicConfig {
     fn copy(&self, _alloc: Global) -> Result<TopicConfig, OutOfMemory> {
@@ -73,11 +105,5 @@ impl Duplicate for RetryPolicy {
 impl Duplicate for SubConfig {
     fn copy(&self, _alloc: Global) -> Result<SubConfig, OutOfMemory> {
         Ok(self.clone()?)
-    }
-}
-
-impl Duplicate for Mask {
-    fn copy(&self, _alloc: Global) -> Result<Mask, OutOfMemory> {
-        Ok(*self)
     }
 }
