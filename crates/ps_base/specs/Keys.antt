@@ -1,10 +1,10 @@
--- Texts by key: pairs of a key and a value, the keys in ascending byte order and each once.
+-- A map of texts: pairs of a key and a value, with distinct keys in ascending byte order.
 use Rattle.std.specs.Prelude.{ℕ, Bool, List, drop, zip}
 use Rattle.std.specs.List.{list_all}
 use Rattle.std.specs.Cmp.Lexicographic.{slice_cmp}
 use Rattle.std.specs.Ordering.{is_lt, nat_cmp}
 
--- in byte order before the other
+-- a comes before b in byte order
 abbrev pub is_below : List ℕ → List ℕ → Bool
 is_below a b = is_lt (slice_cmp nat_cmp a b)
 

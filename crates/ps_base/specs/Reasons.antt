@@ -3,7 +3,7 @@ use Rattle.std.specs.Prelude.{ℕ, List, [], ◌++◌, codes, decimal}
 use Rattle.ps_base.specs.declared.reason.Reason.{Reason}
 use Rattle.ps_base.specs.declared.reason.Reason.TheVariants.{Path, Body, Name, Shape, UnknownField, UpdateMask, Labels, MessageRetentionDuration, Topic, AckDeadlineSeconds, ExpirationPolicy, FilterTooLong, FilterMixed, FilterSyntax, DeadLetterTopic, MaxDeliveryAttempts, RetryPolicy, Subscription, Messages, MessageEmpty, MessageAttributes, MessageAttributeKey, MessageAttributeValue, MessageOrderingKey, RequestSize, MaxMessages, AckIds, SeekTarget, Snapshot, PageSize, Detached, TopicDeleted, SnapshotLifetime, SnapshotTopic}
 
--- what broke a rule of the message at this place
+-- the text for a broken rule of the message at this place
 abbrev pub of_message : ℕ → List ℕ → List ℕ
 of_message place rule = codes "messages[" ++ (decimal place ++ (codes "]: " ++ rule))
 
@@ -43,7 +43,7 @@ reason_text TopicDeleted = codes "topic deleted"
 reason_text SnapshotLifetime = codes "snapshot lifetime"
 reason_text SnapshotTopic = codes "snapshot topic"
 
--- the same without path and place
+-- the text of a reason that has no path and no place, and empty for the others
 abbrev pub words_of : Reason → List ℕ
 words_of (Shape path) = []
 words_of (UnknownField path) = []

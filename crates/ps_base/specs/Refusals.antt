@@ -1,4 +1,4 @@
--- What is told of a refusal: its code and status (google.rpc.Code, and its mapping to HTTP), and its message.
+-- What a caller is told of a refusal: its code and status (google.rpc.Code and its mapping to HTTP), and its message.
 use Rattle.std.specs.Prelude.{ℕ, List, codes}
 use Rattle.ps_base.specs.declared.refusal.Refusal.{Refusal}
 use Rattle.ps_base.specs.Reasons.{reason_text}

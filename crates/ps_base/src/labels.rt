@@ -7,7 +7,7 @@ use crate::text::Text;
 use std::alloc::Global;
 use std::marker::Model;
 
-/// Texts by key: pairs of a key and a value, the keys in strictly ascending byte order.
+/// A map of texts: pairs of a key and a value, with keys in strictly ascending byte order.
 #[derive(Clone, Debug, Drop)]
 pub struct Labels {
     pairs: List<(Text, Text)>,
@@ -25,7 +25,7 @@ impl Model for Labels {
 }
 
 impl Labels {
-    /// No labels, which takes no memory.
+    /// No labels. Allocates nothing.
     pub fn new(alloc: Global) -> Labels
         ensures { result ≡ [] }
     {
@@ -34,7 +34,7 @@ impl Labels {
         }
     }
 
-    /// The labels that these pairs are. None exactly where a key isn't below the next one.
+    /// Makes labels of these pairs. Returns `None` if and only if some key isn't below the next one.
     pub fn of(pairs: List<(Text, Text)>) -> Option<Labels>
         ensures { result ≡ (if has_ascending_keys pairs then Some pairs else None) }
     {

@@ -1,4 +1,4 @@
-//! Plain values that every crate of the service speaks of.
+//! Plain values that every crate of the service uses.
 #![tactic(auto)]
 
 mod ack_id;

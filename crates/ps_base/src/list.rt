@@ -4,7 +4,7 @@ use crate::memory::{Duplicate, OutOfMemory};
 use std::alloc::Global;
 use std::marker::Model;
 
-/// A `Vec` that contracts see as the list of its items, first to last.
+/// A `Vec` that contracts see as a list of its items, first to last.
 #[derive(Clone, Debug, Drop)]
 pub struct List<T> {
     items: Vec<T>,
@@ -22,7 +22,7 @@ impl<T> Model for List<T> {
 }
 
 impl<T> List<T> {
-    /// The empty list, which takes no memory.
+    /// The empty list. Allocates nothing.
     pub fn new(alloc: Global) -> List<T>
         ensures { result ≡ [] }
     {
@@ -31,7 +31,7 @@ impl<T> List<T> {
         }
     }
 
-    /// The items of a `Vec`, in its memory.
+    /// Wraps the items of a `Vec`, in the same memory.
     pub fn from_vec(items: Vec<T>) -> List<T>
         ensures { result ≡ items.items }
     {
@@ -53,7 +53,7 @@ impl<T> List<T> {
         self.items.as_slice()
     }
 
-    /// How many items there are.
+    /// The number of items.
     pub fn len(&self) -> usize
         ensures { result ≡ length self.now }
     {
@@ -62,7 +62,7 @@ impl<T> List<T> {
 }
 
 impl<T: Drop> List<T> {
-    /// Adds an item at the end. Without memory the list stays as it was.
+    /// Adds an item at the end. If out of memory, the list stays as it was.
     pub fn push(&mut self, item: T) -> Result<(), OutOfMemory>
         ensures ok { OnOk result (self.new ≡ self.old ++ item ∷ []) }
         ensures err { OnErr result (self.new ≡ self.old) }
@@ -71,7 +71,7 @@ impl<T: Drop> List<T> {
         Ok(())
     }
 
-    /// Takes all items out, and keeps the memory for the next ones.
+    /// Removes all items, and keeps the memory for new ones.
     pub fn clear(&mut self)
         ensures { self.new ≡ [] }
     {
@@ -80,7 +80,7 @@ impl<T: Drop> List<T> {
 }
 
 impl<T: Duplicate> List<T> {
-    /// A list of equal items in the same order. Only memory can be wanting.
+    /// A list of equal items in the same order. Fails only if out of memory.
     pub fn copy_of(alloc: Global, items: &[T]) -> Result<List<T>, OutOfMemory>
         ensures { IfOk result (λ made. made ≡ items.now) }
     {

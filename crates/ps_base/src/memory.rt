@@ -2,7 +2,7 @@ ghost use Rattle.std.specs.Prelude.{◌≡◌, IfOk};
 
 use std::alloc::{AllocError, AllocFailed, Global};
 
-/// The machine has no memory left for a call.
+/// There is no memory left for a call.
 #[derive(Clone, Copy, Debug, PartialEq, Eq)]
 pub struct OutOfMemory;
 
@@ -18,9 +18,9 @@ impl<T: Drop> From<AllocFailed<T>> for OutOfMemory {
     }
 }
 
-/// A value that can be made a second time, in memory of its own.
+/// A fallible `Clone`: it makes an equal value in memory of its own.
 pub trait Duplicate: Sized + Drop {
-    /// An equal value. Only memory can be wanting.
+    /// An equal value. Fails only if out of memory.
     fn copy(&self, alloc: Global) -> Result<Self, OutOfMemory>
         ensures { IfOk result (λ made. made ≡ self.now) };
 }

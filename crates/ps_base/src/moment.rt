@@ -26,7 +26,7 @@ impl Model for Moment {
 }
 
 impl Moment {
-    /// The moment so many milliseconds after 1970 began, or the last one where these are more.
+    /// The moment this many milliseconds after the start of 1970, or the last moment if that would be later.
     pub fn of(milliseconds: u64) -> Moment
         ensures { result ≡ min milliseconds last_moment }
     {
@@ -35,7 +35,7 @@ impl Moment {
         }
     }
 
-    /// Whole milliseconds since 1970 began.
+    /// The whole milliseconds since the start of 1970.
     pub fn milliseconds(self) -> u64
         ensures value { result ≡ self }
         ensures within { result ≤ last_moment }

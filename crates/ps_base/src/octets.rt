@@ -4,7 +4,7 @@ use crate::memory::{Duplicate, OutOfMemory};
 use std::alloc::Global;
 use std::marker::Model;
 
-/// Bytes on the heap that contracts see as their list.
+/// Bytes on the heap, which contracts see as a list.
 #[derive(Clone, Debug, Drop)]
 pub struct Octets {
     bytes: Vec<u8>,
@@ -19,7 +19,7 @@ impl Model for Octets {
 }
 
 impl Octets {
-    /// A copy of these bytes. Only memory can be wanting.
+    /// A copy of these bytes. Fails only if out of memory.
     pub fn from_slice(alloc: Global, bytes: &[u8]) -> Result<Octets, OutOfMemory>
         ensures { IfOk result (λ made. made ≡ bytes.now) }
     {
@@ -28,7 +28,7 @@ impl Octets {
         })
     }
 
-    /// The bytes of a `Vec`, in its memory.
+    /// Wraps the bytes of a `Vec`, in the same memory.
     pub fn from_vec(bytes: Vec<u8>) -> Octets
         ensures { result ≡ bytes.items }
     {
@@ -42,7 +42,7 @@ impl Octets {
         self.bytes.as_slice()
     }
 
-    /// How many bytes there are.
+    /// The number of bytes.
     pub fn len(&self) -> usize
         ensures { result ≡ length self.now }
     {

@@ -6,7 +6,7 @@ use crate::text::Text;
 use std::alloc::Global;
 use std::fmt;
 
-/// A check that a call broke, named as a caller is told: by the field, and where it has one by the place.
+/// A check that a call broke, named as a caller is told: by the field and, if it has one, by the place.
 #[derive(Clone, Debug, Drop)]
 pub enum Reason {
     /// A part of the path isn't UTF-8.
@@ -15,11 +15,11 @@ pub enum Reason {
     Body,
     /// A name is outside the grammar, or isn't the one in the path.
     Name,
-    /// The field at this path has another kind of value.
+    /// The field at this path has a value of another kind.
     Shape(Text),
     /// No call has a field at this path.
     UnknownField(Text),
-    /// No field is masked, or one that an update can't change.
+    /// The mask names no field, or one that an update can't change.
     UpdateMask,
     Labels,
     MessageRetentionDuration,
@@ -27,9 +27,9 @@ pub enum Reason {
     AckDeadlineSeconds,
     ExpirationPolicy,
     FilterTooLong,
-    /// `AND` and `OR` stand at one level of the filter. The second one begins at this byte.
+    /// The filter uses `AND` and `OR` at one level. The second one begins at this byte.
     FilterMixed(u32),
-    /// No filter goes on with the token at this byte.
+    /// No filter continues with the token at this byte.
     FilterSyntax(u32),
     DeadLetterTopic,
     MaxDeliveryAttempts,
@@ -41,11 +41,11 @@ pub enum Reason {
     MessageEmpty(u32),
     /// The message at this place has too many attributes.
     MessageAttributes(u32),
-    /// The message at this place has an attribute with an empty or a too long key.
+    /// The message at this place has an attribute whose key is empty or too long.
     MessageAttributeKey(u32),
-    /// The message at this place has an attribute with a too long value.
+    /// The message at this place has an attribute whose value is too long.
     MessageAttributeValue(u32),
-    /// The message at this place has a too long ordering key.
+    /// The message at this place has an ordering key that is too long.
     MessageOrderingKey(u32),
     RequestSize,
     MaxMessages,
@@ -58,21 +58,21 @@ pub enum Reason {
     Detached,
     /// The topic of the subscription was deleted.
     TopicDeleted,
-    /// The snapshot would end too soon.
+    /// The snapshot would expire too soon.
     SnapshotLifetime,
-    /// The snapshot is of another topic.
+    /// The snapshot belongs to another topic.
     SnapshotTopic,
 }
 
 impl Reason {
-    /// The text that tells this reason. Only memory can be wanting.
+    /// The text of this reason. Fails only if out of memory.
     pub fn text(&self, alloc: Global) -> Result<Text, OutOfMemory>
         ensures { IfOk result (λ text. text ≡ reason_text self.now) }
     {
         Ok(Text::from_string(self.to_string(alloc)?))
     }
 
-    /// The words of a reason that has no path and no place. Empty for the others.
+    /// The text of a reason that has no path and no place, and empty for the others.
     fn words(&self) -> &'static str
         ensures { result.now ≡ words_of self.now }
     {

@@ -11,11 +11,11 @@ use std::alloc::Global;
 pub enum Refusal {
     /// An argument breaks a check.
     InvalidArgument(Reason),
-    /// There is nothing of this name.
+    /// Nothing has this name.
     NotFound(Text),
-    /// There is something of this name already.
+    /// Something already has this name.
     AlreadyExists(Text),
-    /// What is there doesn't allow the command.
+    /// The current state doesn't allow the command.
     FailedPrecondition(Reason),
     /// The record has as many entries as it can number.
     Exhausted,
@@ -51,8 +51,7 @@ impl Refusal {
         }
     }
 
-    /// What a caller reads beside the code: a reason, a name or the path of a field. Only memory can be
-    /// wanting.
+    /// What a caller reads beside the code: a reason, a name or the path of a field. Fails only if out of memory.
     pub fn message(&self, alloc: Global) -> Result<Text, OutOfMemory>
         ensures { IfOk result (λ text. text ≡ message_of self.now) }
     {

@@ -7,7 +7,7 @@ use std::alloc::Global;
 use std::fmt;
 use std::marker::Model;
 
-/// A text in UTF-8 that contracts see as the list of its bytes.
+/// A UTF-8 `String`, which contracts see as the list of its bytes.
 #[derive(Clone, Debug, Drop)]
 pub struct Text {
     text: String,
@@ -22,7 +22,7 @@ impl Model for Text {
 }
 
 impl Text {
-    /// A copy of this text. Only memory can be wanting.
+    /// A copy of this text. Fails only if out of memory.
     pub fn from_str(alloc: Global, text: &str) -> Result<Text, OutOfMemory>
         ensures { IfOk result (λ made. made ≡ text.now) }
     {
@@ -31,14 +31,14 @@ impl Text {
         })
     }
 
-    /// The text of a `String`, in its memory.
+    /// Wraps the text of a `String`, in the same memory.
     pub fn from_string(text: String) -> Text
         ensures { result ≡ string_bytes text }
     {
         Text { text }
     }
 
-    /// The text as it is.
+    /// The text as a `str`.
     pub fn as_str(&self) -> &str
         ensures { result.now ≡ self.now }
     {
