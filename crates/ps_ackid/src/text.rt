@@ -6,8 +6,7 @@ ghost use Rattle.ps_ackid.specs.AckTexts.{ack_bytes, ack_text, IsAckId};
 use base64::engine::general_purpose::STANDARD;
 use ps_base::AckId;
 
-/// The text of an ack id: the standard base64 of its three numbers, each of eight bytes with the high one
-/// first. Takes no memory.
+/// The text of an ack id: the standard base64 of its three big-endian numbers of eight bytes. Allocates nothing.
 #[tactic(auto, unfolding(crate::specs::AckTexts::ack_text))]
 pub fn write(id: AckId) -> [u8; 32]
     ensures { result ≡ ack_text id }
@@ -17,11 +16,11 @@ pub fn write(id: AckId) -> [u8; 32]
     text
 }
 
-/// The ack id that has this text. None exactly where the text is no such 32 characters. Takes no memory.
+/// The ack id that has this text, or `None` if and only if no ack id has it. Allocates nothing.
 pub fn read(text: &[u8]) -> Option<AckId>
     // No other text is read as that id.
     ensures some { IfSome result (λ id. text.now ≡ ack_text id) }
-    // What was written is read again.
+    // What was written is read back.
     ensures again { (id : AckId) → IsAckId id → text.now ≡ ack_text id → result ≡ Some id }
     ensures none { IfNone result ((id : AckId) → IsAckId id → text.now ≡ ack_text id → ⊥) }
 {

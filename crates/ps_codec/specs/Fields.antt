@@ -1,4 +1,4 @@
--- The bytes of each kind of field: numbers with the high byte first, a flag as one byte, and bytes behind their count.
+-- The bytes of each kind of field: big-endian numbers, a flag as one byte, and bytes after their count.
 use Rattle.std.specs.Prelude.{ℕ, ◌<◌, ◌^◌, Bool, true, false, List, [], ◌∷◌, ◌++◌, length, slice_index}
 use Rattle.std.specs.Int.{w32, w64, to_be_bytes}
 
@@ -17,10 +17,10 @@ abbrev pub flag_field : Bool → List ℕ
 flag_field false = 0 ∷ []
 flag_field true = 1 ∷ []
 
--- how many there are, and the bytes
+-- the number of bytes, then the bytes
 abbrev pub bytes_field : List ℕ → List ℕ
 bytes_field bytes = u32_field (length bytes) ++ bytes
 
--- each is a byte
+-- each item is a byte
 abbrev pub IsBytes : List ℕ → Type 0
 IsBytes bytes = (place : ℕ) → slice_index bytes place < 2 ^ 8

@@ -2,7 +2,7 @@ ghost use Rattle.std.specs.Prelude.{◌≡◌, ◌++◌, ◌<◌, ◌^◌, ℕ, 
 ghost use Rattle.ps_codec.specs.Fields.{IsBytes, u8_field, u32_field, u64_field, flag_field, bytes_field};
 ghost use Rattle.ps_codec.specs.Found.{u8_at, u32_at, u64_at, flag_at, bytes_at};
 
-/// What was written is read again, whatever follows it.
+/// What was written is read back, whatever follows it.
 pub fn written_is_read()
     ensures u8 { (value : ℕ) (rest : List ℕ) → u8_at (u8_field value ++ rest) ≡ Ok (value, rest) }
     ensures u32 { (value : ℕ) (rest : List ℕ) → value < 2 ^ 32
@@ -14,7 +14,7 @@ pub fn written_is_read()
         → bytes_at (bytes_field value ++ rest) ≡ Ok (value, rest) }
 {}
 
-/// Nothing else is read: the bytes begin with the field of the value, which fits it.
+/// Nothing else is read: the bytes begin with the field of the value that is read, and the value fits this field.
 pub fn only_what_is_written_is_read()
     ensures u8 { (bytes : List ℕ) (value : ℕ) (rest : List ℕ) → u8_at bytes ≡ Ok (value, rest)
         → bytes ≡ u8_field value ++ rest }

@@ -1,4 +1,4 @@
-//! The fields of a record: numbers, flags and bytes, written one after the other and read again.
+//! The fields of a record: numbers, flags and bytes, written one after the other and read back.
 #![tactic(auto)]
 
 mod fault;

@@ -5,7 +5,7 @@ ghost use Rattle.ps_codec.specs.Found.{u8_at, u32_at, u64_at, flag_at, bytes_at}
 use crate::fault::FieldError;
 use std::marker::Model;
 
-/// Reads fields from the front of some bytes, and takes no memory. Contracts see the bytes not yet read.
+/// Reads fields from the start of some bytes without allocating. Contracts see the bytes not yet read.
 #[derive(Drop)]
 pub struct FieldReader<'a> {
     rest: &'a [u8],
@@ -20,21 +20,21 @@ impl<'a> Model for FieldReader<'a> {
 }
 
 impl<'a> FieldReader<'a> {
-    /// A reader of all of these bytes.
+    /// A reader over all of these bytes.
     pub fn new(input: &'a [u8]) -> FieldReader<'a>
         ensures { result ≡ input.now }
     {
         FieldReader { rest: input }
     }
 
-    /// How many bytes aren't read yet.
+    /// The number of bytes not yet read.
     pub fn left(&self) -> usize
         ensures { result ≡ length self.now }
     {
         self.rest.len()
     }
 
-    /// Reads one byte. `Short` exactly where none is left. After an error the reader is as it was.
+    /// Reads one byte. Fails with `Short`, and changes nothing, if and only if no byte is left.
     pub fn u8(&mut self) -> Result<u8, FieldError>
         ensures found { IfOk result (λ value. u8_at self.old ≡ Ok (value, self.new)) }
         ensures written { IfOk result (λ value. self.old ≡ u8_field value ++ self.new) }
@@ -48,8 +48,7 @@ impl<'a> FieldReader<'a> {
         Ok(value)
     }
 
-    /// Reads four bytes as a number, the high one first. `Short` exactly where fewer are left. After an error
-    /// the reader is as it was.
+    /// Reads a big-endian `u32`. Fails with `Short`, and changes nothing, if and only if fewer than 4 bytes are left.
     pub fn u32(&mut self) -> Result<u32, FieldError>
         ensures found { IfOk result (λ value. u32_at self.old ≡ Ok (value, self.new)) }
         ensures written { IfOk result (λ value. self.old ≡ u32_field value ++ self.new) }
@@ -63,8 +62,7 @@ impl<'a> FieldReader<'a> {
         Ok(value)
     }
 
-    /// Reads eight bytes as a number, the high one first. `Short` exactly where fewer are left. After an error
-    /// the reader is as it was.
+    /// Reads a big-endian `u64`. Fails with `Short`, and changes nothing, if and only if fewer than 8 bytes are left.
     pub fn u64(&mut self) -> Result<u64, FieldError>
         ensures found { IfOk result (λ value. u64_at self.old ≡ Ok (value, self.new)) }
         ensures written { IfOk result (λ value. self.old ≡ u64_field value ++ self.new) }
@@ -78,8 +76,8 @@ impl<'a> FieldReader<'a> {
         Ok(value)
     }
 
-    /// Reads one byte as a flag, or as the first one of an option. `Short` exactly where none is left, `BadTag`
-    /// exactly where it is above 1. After an error the reader is as it was.
+    /// Reads one byte as a flag, or as the first byte of an option. Fails with `Short` if and only if no byte is left,
+    /// and with `BadTag` if and only if it is above 1. After an error the reader is unchanged.
     pub fn flag(&mut self) -> Result<bool, FieldError>
         ensures found { IfOk result (λ value. flag_at self.old ≡ Ok (value, self.new)) }
         ensures written { IfOk result (λ value. self.old ≡ flag_field value ++ self.new) }
@@ -93,8 +91,8 @@ impl<'a> FieldReader<'a> {
         Ok(value)
     }
 
-    /// Reads a count as `u32` does, and then so many bytes. `Short` exactly where fewer are left. After an
-    /// error the reader is as it was.
+    /// Reads a count as `u32` does, then that many bytes. Fails with `Short`, and changes nothing, if and only if fewer
+    /// bytes are left.
     pub fn bytes(&mut self) -> Result<&'a [u8], FieldError>
         ensures found { IfOk result (λ value. bytes_at self.old ≡ Ok (value.now, self.new)) }
         ensures written { IfOk result (λ value. self.old ≡ bytes_field value.now ++ self.new) }

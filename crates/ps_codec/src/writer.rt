@@ -20,7 +20,7 @@ impl Model for FieldWriter {
 }
 
 impl FieldWriter {
-    /// A writer of nothing so far, which takes no memory.
+    /// A writer with nothing written yet. Allocates nothing.
     pub fn new(alloc: Global) -> FieldWriter
         ensures { result ≡ [] }
     {
@@ -29,7 +29,7 @@ impl FieldWriter {
         }
     }
 
-    /// Appends one byte. Without memory the writer stays as it was.
+    /// Appends one byte. If out of memory, the writer stays as it was.
     pub fn u8(&mut self, value: u8) -> Result<(), OutOfMemory>
         ensures ok { OnOk result (self.new ≡ self.old ++ u8_field value) }
         ensures err { OnErr result (self.new ≡ self.old) }
@@ -38,7 +38,7 @@ impl FieldWriter {
         Ok(())
     }
 
-    /// Appends four bytes, the high one first. Without memory the writer stays as it was.
+    /// Appends a big-endian `u32`. If out of memory, the writer stays as it was.
     #[tactic(auto, unfolding(crate::specs::Fields::u32_field))]
     pub fn u32(&mut self, value: u32) -> Result<(), OutOfMemory>
         ensures ok { OnOk result (self.new ≡ self.old ++ u32_field value) }
@@ -48,7 +48,7 @@ impl FieldWriter {
         Ok(())
     }
 
-    /// Appends eight bytes, the high one first. Without memory the writer stays as it was.
+    /// Appends a big-endian `u64`. If out of memory, the writer stays as it was.
     #[tactic(auto, unfolding(crate::specs::Fields::u64_field))]
     pub fn u64(&mut self, value: u64) -> Result<(), OutOfMemory>
         ensures ok { OnOk result (self.new ≡ self.old ++ u64_field value) }
@@ -58,7 +58,7 @@ impl FieldWriter {
         Ok(())
     }
 
-    /// Appends the byte 1 for true and 0 for false. Without memory the writer stays as it was.
+    /// Appends the byte 1 for true and 0 for false. If out of memory, the writer stays as it was.
     pub fn flag(&mut self, value: bool) -> Result<(), OutOfMemory>
         ensures ok { OnOk result (self.new ≡ self.old ++ flag_field value) }
         ensures err { OnErr result (self.new ≡ self.old) }
@@ -66,8 +66,7 @@ impl FieldWriter {
         self.u8(if value { 1 } else { 0 })
     }
 
-    /// Appends how many bytes there are, as `u32` does, and then the bytes. Without memory the writer stays
-    /// as it was.
+    /// Appends the number of bytes as `u32` does, then the bytes. If out of memory, the writer stays as it was.
     pub fn bytes(&mut self, value: &[u8]) -> Result<(), OutOfMemory>
         requires { length value.now < 2 ^ 32 }
         ensures ok { OnOk result (self.new ≡ self.old ++ bytes_field value.now) }
