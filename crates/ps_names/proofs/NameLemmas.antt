@@ -7,7 +7,9 @@ use Rattle.std.proofs.lemmas.Bool.{and_parts, and_from, eqb-true, ltb-true, leb-
 use Rattle.std.proofs.lemmas.Bool.Decides.{nat_tests}
 use Rattle.std.proofs.lemmas.Str.{IsUtf8-from_ascii}
 use Rattle.std.proofs.lemmas.Str.Ascii.{IsAscii-nil, IsAscii-cons}
-use Rattle.ps_names.specs.Names.{is_project_byte, is_id_byte, starts_with_byte, is_project, is_id, parts_of, is_parts_of, is_topic_name}
+use Rattle.ps_names.specs.Names.{is_project_byte, is_id_byte, starts_with_byte, is_project, is_id, parts_of, is_topic_name}
+use Rattle.ps_names.specs.Parts.{is_parts_of}
+use Rattle.ps_names.proofs.GrammarLemmas.{parts-are-name}
 use Rattle.std.proofs.lemmas.Slice.Eq.{bytes_eq-Decides}
 
 abbrev pub is_slash : ℕ → Bool
@@ -94,10 +96,10 @@ ascii-split (x ∷ xs) h = by (is_slash x) refl (ascii-split xs) h
     by false slash rest h = let p = onto (slice_split is_slash xs) h in IsAscii-cons x xs (ltb-true x 128 p.0) (rest p.1)
 
 pub topic_name-short : (text : List ℕ) → is_topic_name text ≡ true → length text ≤ 349
-topic_name-short text h = let split = are_parts (codes "topics") (lit≤ tt) refl (parts_of text) h in omega (arith, split.few, total-split text)
+topic_name-short text h = let split = are_parts (codes "topics") (lit≤ tt) refl (parts_of text) (parts-are-name (codes "topics") text refl ∙ h) in omega (arith, split.few, total-split text)
 
 pub topic_name-ascii : (text : List ℕ) → is_topic_name text ≡ true → IsAscii text
-topic_name-ascii text h = let split = are_parts (codes "topics") (lit≤ tt) refl (parts_of text) h in ascii-split text split.ascii
+topic_name-ascii text h = let split = are_parts (codes "topics") (lit≤ tt) refl (parts_of text) (parts-are-name (codes "topics") text refl ∙ h) in ascii-split text split.ascii
 
 pub topic_name-utf8 : (text : List ℕ) → is_topic_name text ≡ true → IsUtf8 text
 topic_name-utf8 text h = IsUtf8-from_ascii text (topic_name-ascii text h)

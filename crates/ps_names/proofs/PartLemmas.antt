@@ -1,6 +1,6 @@
 -- Texts with another number of parts are no names of resources.
 use Rattle.std.proofs.Common.{◌≡◌, ◌<◌, ◌≤◌, ℕ, List, [], ◌∷◌, length, false, Option, Some, None, Bor, unwrap_or, option_map, refl, arith}
-use Rattle.ps_names.specs.Names.{is_parts_of}
+use Rattle.ps_names.specs.Parts.{is_parts_of}
 
 pub parts-few : (kind : List ℕ) (parts : List (List ℕ)) → length parts < 4 → is_parts_of kind parts ≡ false
 parts-few kind [] few = refl

@@ -1,5 +1,5 @@
 -- The grammar of resource names (Pub/Sub documentation, "Guidelines to name a topic or a subscription"; the project part is this project's own).
-use Rattle.std.specs.Prelude.{ℕ, List, [], ◌∷◌, length, Bool, false, ◌&&◌, ◌||◌, not, ◌==◌, nat_eq, nat_le, codes, unwrap_or, slice_get}
+use Rattle.std.specs.Prelude.{ℕ, List, [], ◌∷◌, ◌++◌, length, Bool, false, ◌&&◌, ◌||◌, not, ◌==◌, nat_eq, nat_le, codes, unwrap_or, slice_get}
 use Rattle.std.specs.List.{list_all, starts_with, slice_split}
 use Rattle.std.specs.Char.{is_ascii_lowercase, is_ascii_alphabetic, is_ascii_alphanumeric, is_ascii_digit}
 use Rattle.std.specs.Str.{bytes_eq}
@@ -24,22 +24,14 @@ is_project part = starts_with_byte is_ascii_lowercase part && nat_le (length par
 abbrev pub is_id : List ℕ → Bool
 is_id part = starts_with_byte is_ascii_alphabetic part && nat_le 3 (length part) && nat_le (length part) 255 && list_all is_id_byte part && not (starts_with nat_eq part (codes "goog"))
 
--- the parts of a text between its slashes
-abbrev pub parts_of : List ℕ → List (List ℕ)
-parts_of text = slice_split (λ b. b == 47) text
-
--- one of them, from 0; empty where there are fewer
-abbrev pub part : ℕ → List ℕ → List ℕ
-part place text = unwrap_or (slice_get (parts_of text) place) []
-
--- the parts are `projects`, a project, a kind of resource and an id
-abbrev pub is_parts_of : List ℕ → List (List ℕ) → Bool
-is_parts_of kind (projects ∷ project ∷ named ∷ id ∷ []) = bytes_eq projects (codes "projects") && is_project project && bytes_eq named kind && is_id id
-is_parts_of kind _ = false
+-- a text that can be cut in two: the front has the one form, and the rest the other
+abbrev pub is_joined : (List ℕ → Bool) → (List ℕ → Bool) → List ℕ → Bool
+is_joined front rest [] = front [] && rest []
+is_joined front rest (b ∷ bytes) = (front [] && rest (b ∷ bytes)) || is_joined (λ more. front (b ∷ more)) rest bytes
 
 -- `projects/{project}/{kind}/{id}`
 abbrev pub is_name_of : List ℕ → List ℕ → Bool
-is_name_of kind text = is_parts_of kind (parts_of text)
+is_name_of kind = is_joined (bytes_eq (codes "projects/")) (is_joined is_project (is_joined (bytes_eq (codes "/" ++ (kind ++ codes "/"))) is_id))
 
 abbrev pub is_topic_name : List ℕ → Bool
 is_topic_name = is_name_of (codes "topics")
@@ -49,6 +41,14 @@ is_sub_name = is_name_of (codes "subscriptions")
 
 abbrev pub is_snap_name : List ℕ → Bool
 is_snap_name = is_name_of (codes "snapshots")
+
+-- what stands between the slashes of a text
+abbrev pub parts_of : List ℕ → List (List ℕ)
+parts_of text = slice_split (λ b. b == 47) text
+
+-- one of these parts, from 0; empty if there are fewer
+abbrev pub part : ℕ → List ℕ → List ℕ
+part place text = unwrap_or (slice_get (parts_of text) place) []
 
 -- the project in the name of a resource
 abbrev pub project_part : List ℕ → List ℕ

@@ -1,7 +1,8 @@
 ghost use Rattle.std.specs.Prelude.{◌≡◌, IfOk, map, unwrap_or, slice_get, []};
 ghost use Rattle.std.specs.List.{list_all};
 ghost use Rattle.std.specs.Char.{is_ascii_lowercase, is_ascii_alphabetic};
-ghost use Rattle.ps_names.specs.Names.{is_parts_of, parts_of, part, starts_with_byte, is_project, is_id, is_project_byte, is_id_byte};
+ghost use Rattle.ps_names.specs.Parts.{is_parts_of};
+ghost use Rattle.ps_names.specs.Names.{parts_of, part, starts_with_byte, is_project, is_id, is_project_byte, is_id_byte};
 
 use ps_base::OutOfMemory;
 use std::alloc::Global;

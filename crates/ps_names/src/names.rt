@@ -1,5 +1,6 @@
-ghost use Rattle.std.specs.Prelude.{◌≡◌, true, IfOk, Some, None, if◌then◌else◌};
+ghost use Rattle.std.specs.Prelude.{◌≡◌, true, false, IfOk, Some, None, if◌then◌else◌};
 ghost use Rattle.std.specs.Str.{bytes_eq};
+ghost use Rattle.ps_names.specs.Parts.{has_slash};
 ghost use Rattle.ps_names.specs.Names.{is_name_of, is_topic_name, is_sub_name, is_snap_name, is_project, project_part, id_part};
 
 use crate::grammar::{is_parts_of, is_project, part, parts_of};
@@ -7,8 +8,9 @@ use ps_base::{Duplicate, OutOfMemory, Text};
 use std::alloc::Global;
 use std::marker::Model;
 
-/// Whether a text is the name of this kind of resource. Only memory can be wanting.
+/// Whether a text is the name of this kind of resource.
 fn is_name_of(alloc: Global, kind: &str, text: &str) -> Result<bool, OutOfMemory>
+    requires plain { has_slash kind.now ≡ false }
     ensures { IfOk result (λ is_name. is_name ≡ is_name_of kind.now text.now) }
 {
     let parts = parts_of(alloc, text)?;
@@ -33,7 +35,7 @@ impl Model for TopicName {
 }
 
 impl TopicName {
-    /// The name that this text is. None exactly where it is outside the grammar.
+    /// The name that this text is. None exactly if it is outside the grammar.
     pub fn read(alloc: Global, text: &str) -> Result<Option<TopicName>, OutOfMemory>
         ensures { IfOk result (λ name. name ≡ (if is_topic_name text.now then Some text.now else None)) }
     {
@@ -96,7 +98,7 @@ impl Model for SubName {
 }
 
 impl SubName {
-    /// The name that this text is. None exactly where it is outside the grammar.
+    /// The name that this text is. None exactly if it is outside the grammar.
     pub fn read(alloc: Global, text: &str) -> Result<Option<SubName>, OutOfMemory>
         ensures { IfOk result (λ name. name ≡ (if is_sub_name text.now then Some text.now else None)) }
     {
@@ -159,7 +161,7 @@ impl Model for SnapName {
 }
 
 impl SnapName {
-    /// The name that this text is. None exactly where it is outside the grammar.
+    /// The name that this text is. None exactly if it is outside the grammar.
     pub fn read(alloc: Global, text: &str) -> Result<Option<SnapName>, OutOfMemory>
         ensures { IfOk result (λ name. name ≡ (if is_snap_name text.now then Some text.now else None)) }
     {
@@ -222,7 +224,7 @@ impl Model for ProjectName {
 }
 
 impl ProjectName {
-    /// The project's part that this text is. None exactly where it is outside the grammar.
+    /// The project's part that this text is. None exactly if it is outside the grammar.
     pub fn read(alloc: Global, text: &str) -> Result<Option<ProjectName>, OutOfMemory>
         ensures { IfOk result (λ name. name ≡ (if is_project text.now then Some text.now else None)) }
     {
