@@ -1,4 +1,4 @@
--- What each setting of a topic or a subscription may be (API reference, the limits of each field; the greatest retention and expiration, and the limits on labels, are this project's own).
+-- What each setting of a topic or a subscription may be, as checks in their order.
 use Rattle.std.specs.Prelude.{ℕ, Bool, false, ◌||◌, nat_lt, List, [], ◌∷◌, Option, Some, None, length, if◌then◌else◌}
 use Rattle.std.specs.List.{list_any}
 use Rattle.ps_base.specs.declared.reason.Reason.{Reason}
@@ -11,6 +11,7 @@ use Rattle.ps_config.specs.declared.config.DeadLetterPolicy.{DeadLetterPolicy}
 use Rattle.ps_config.specs.declared.config.RetryPolicy.{RetryPolicy as Retry}
 use Rattle.ps_config.specs.declared.mask.Mask.{Mask}
 use Rattle.ps_config.specs.Masks.{has_bit}
+pub use Rattle.ps_config.specs.Numbers.{least_ack_seconds, most_ack_seconds, least_retention, most_retention, least_expiration, most_expiration, least_attempts, most_attempts, most_delay, most_labels, most_bytes_of_label}
 
 abbrev pub is_outside : ℕ → ℕ → ℕ → Bool
 is_outside least most n = nat_lt n least || nat_lt most n
@@ -19,13 +20,12 @@ abbrev pub is_outside_where_set : ℕ → ℕ → Option ℕ → Bool
 is_outside_where_set least most None = false
 is_outside_where_set least most (Some n) = is_outside least most n
 
--- a key of 1 to 63 bytes, and a value of at most 63
+-- no key, or a long key or value
 abbrev pub is_bad_label : List ℕ × List ℕ → Bool
-is_bad_label pair = is_outside 1 63 (length pair.0) || nat_lt 63 (length pair.1)
+is_bad_label pair = is_outside 1 most_bytes_of_label (length pair.0) || nat_lt most_bytes_of_label (length pair.1)
 
--- at most 64 labels
 abbrev pub has_bad_labels : List (List ℕ × List ℕ) → Bool
-has_bad_labels labels = nat_lt 64 (length labels) || list_any is_bad_label labels
+has_bad_labels labels = nat_lt most_labels (length labels) || list_any is_bad_label labels
 
 abbrev pub labels_fault : List (List ℕ × List ℕ) → Option Reason
 labels_fault labels = broken (has_bad_labels labels) Labels
@@ -34,13 +34,6 @@ labels_fault labels = broken (has_bad_labels labels) Labels
 abbrev pub if_masked : Mask → ℕ → Option Reason → Option Reason
 if_masked mask bit fault = if has_bit mask bit then fault else None
 
--- 10 minutes and 31 days
-abbrev pub least_retention : ℕ
-least_retention = 600000
-
-abbrev pub most_retention : ℕ
-most_retention = 2678400000
-
 -- the first check that the masked settings of a topic break
 abbrev pub topic_fault : Mask → TopicConfig → Option Reason
 topic_fault mask config = first_of (
@@ -48,23 +41,21 @@ topic_fault mask config = first_of (
     ∷ if_masked mask 1 (broken (is_outside_where_set least_retention most_retention config.retention) MessageRetentionDuration)
     ∷ [])
 
--- 5 to 100 failures
 abbrev pub has_bad_attempts : Option DeadLetterPolicy → Bool
 has_bad_attempts None = false
-has_bad_attempts (Some policy) = is_outside 5 100 policy.attempts
+has_bad_attempts (Some policy) = is_outside least_attempts most_attempts policy.attempts
 
--- each at most 10 minutes; the least may be above the greatest
+-- the least may be above the greatest
 abbrev pub has_bad_delays : Option Retry → Bool
 has_bad_delays None = false
-has_bad_delays (Some retry) = nat_lt 600000 retry.least || nat_lt 600000 retry.most
+has_bad_delays (Some retry) = nat_lt most_delay retry.least || nat_lt most_delay retry.most
 
--- 10 to 600 seconds a lease, 10 minutes to 31 days of retention, 1 day to 10 years without use
 abbrev pub sub_checks_before_filter : Mask → SubConfig → List (Option Reason)
 sub_checks_before_filter mask config =
-    if_masked mask 0 (broken (is_outside 10 600 config.ack_seconds) AckDeadlineSeconds)
+    if_masked mask 0 (broken (is_outside least_ack_seconds most_ack_seconds config.ack_seconds) AckDeadlineSeconds)
     ∷ if_masked mask 2 (broken (is_outside least_retention most_retention config.retention) MessageRetentionDuration)
     ∷ if_masked mask 3 (labels_fault config.labels)
-    ∷ if_masked mask 4 (broken (is_outside_where_set 86400000 315360000000 config.expiration) ExpirationPolicy)
+    ∷ if_masked mask 4 (broken (is_outside_where_set least_expiration most_expiration config.expiration) ExpirationPolicy)
     ∷ []
 
 abbrev pub sub_checks_behind_filter : Mask → SubConfig → List (Option Reason)

@@ -3,6 +3,7 @@ use Rattle.std.specs.Prelude.{ℕ, ◌/◌, ◌%◌, ◌^◌, Bool, false, not, 
 use Rattle.ps_config.specs.declared.config.TopicConfig.{TopicConfig}
 use Rattle.ps_config.specs.declared.config.SubConfig.{SubConfig}
 use Rattle.ps_config.specs.declared.mask.Mask.{Mask}
+use Rattle.ps_config.specs.Numbers.{default_ack_seconds, default_retention, default_expiration}
 
 -- Of a topic the bits from 0 are labels and retention. Of a subscription they are the seconds of a lease, whether acknowledged messages are retained, retention, labels, expiration, dead letters, retry, exactly-once mode, and push settings, which this project doesn't keep.
 abbrev pub has_bit : Mask → ℕ → Bool
@@ -20,9 +21,8 @@ whole_mask = record { 0 = 511 }
 abbrev pub default_topic : TopicConfig
 default_topic = record { labels = []; retention = None }
 
--- leases of 10 seconds, messages kept for 7 days, and the subscription for 31 days without use
 abbrev pub default_sub : SubConfig
-default_sub = record { ack_seconds = 10; retain_acked = false; retention = 604800000; labels = []; ordering = false; expiration = Some 2678400000; filter = []; dead_letter = None; retry = None; exactly_once = false }
+default_sub = record { ack_seconds = default_ack_seconds; retain_acked = false; retention = default_retention; labels = []; ordering = false; expiration = Some default_expiration; filter = []; dead_letter = None; retry = None; exactly_once = false }
 
 abbrev pub masked_topic : Mask → TopicConfig → TopicConfig → TopicConfig
 masked_topic mask old new = record {

@@ -1,31 +1,18 @@
 ghost use Rattle.std.specs.Prelude.{◌≡◌};
 ghost use Rattle.std.specs.List.{list_any};
 ghost use Rattle.ps_config.specs.Limits.{is_outside, is_outside_where_set, is_bad_label, has_bad_labels, has_bad_attempts, has_bad_delays, topic_fault, sub_fault, sub_checks_before_filter, sub_checks_behind_filter};
+ghost use Rattle.ps_config.specs.Numbers.{least_ack_seconds, most_ack_seconds};
 ghost use Rattle.ps_message.specs.Lists.{first_of};
 
 use crate::config::{DeadLetterPolicy, RetryPolicy, SubConfig, TopicConfig};
+use crate::limits::{
+    LEAST_ACK_SECONDS, LEAST_ATTEMPTS, LEAST_EXPIRATION, LEAST_RETENTION, MOST_ACK_SECONDS,
+    MOST_ATTEMPTS, MOST_BYTES_OF_LABEL, MOST_DELAY, MOST_EXPIRATION, MOST_LABELS, MOST_RETENTION,
+};
 use crate::mask::Mask;
 use ps_base::{Labels, Reason, Text};
 
-const MOST_LABELS: usize = 64;
-
-const MOST_BYTES_OF_LABEL: usize = 63;
-
-/// 10 minutes and 31 days, in milliseconds.
-const LEAST_RETENTION: u64 = 600_000;
-
-const MOST_RETENTION: u64 = 2_678_400_000;
-
-/// 1 day and 10 years of 365 days, in milliseconds.
-const LEAST_EXPIRATION: u64 = 86_400_000;
-
-const MOST_EXPIRATION: u64 = 315_360_000_000;
-
-/// 10 minutes, in milliseconds.
-const MOST_DELAY: u64 = 600_000;
-
-/// The first check that the masked settings of a topic break, in this order: labels, retention. Takes no memory (API
-/// reference, Topic; the limits on labels and the greatest retention are this project's own).
+/// The first check that the masked settings of a topic break, in this order: labels, retention. Takes no memory.
 pub fn check_topic(config: &TopicConfig, mask: Mask) -> Option<Reason>
     ensures { result ≡ topic_fault mask config.now }
 {
@@ -41,8 +28,7 @@ pub fn check_topic(config: &TopicConfig, mask: Mask) -> Option<Reason>
 
 /// The first check that the masked settings of a subscription break, in this order: seconds of a lease, retention,
 /// labels, expiration, attempts of a dead-letter policy, delays of a retry policy. The filter is of no mask. Takes no
-/// memory (API reference, Subscription; the greatest retention and expiration and the limits on labels are this
-/// project's own).
+/// memory.
 pub fn check_sub(config: &SubConfig, mask: Mask) -> Option<Reason>
     ensures { result ≡ sub_fault mask config.now }
 {
@@ -56,7 +42,7 @@ pub fn check_sub(config: &SubConfig, mask: Mask) -> Option<Reason>
 fn fault_before_filter(config: &SubConfig, mask: Mask) -> Option<Reason>
     ensures { result ≡ first_of (sub_checks_before_filter mask config.now) }
 {
-    if mask.has(0) && is_outside(10, 600, u64::from(config.ack_seconds)) {
+    if mask.has(0) && has_bad_deadline(config.ack_seconds) {
         return Some(Reason::AckDeadlineSeconds);
     }
     if mask.has(2) && is_outside(LEAST_RETENTION, MOST_RETENTION, config.retention) {
@@ -100,7 +86,13 @@ fn is_outside_where_set(least: u64, most: u64, number: Option<u64>) -> bool
     }
 }
 
-/// Whether there are more than 64 labels, or one has no key, or a key or value of more than 63 bytes.
+fn has_bad_deadline(seconds: u32) -> bool
+    ensures { result ≡ is_outside least_ack_seconds most_ack_seconds seconds }
+{
+    seconds < LEAST_ACK_SECONDS || MOST_ACK_SECONDS < seconds
+}
+
+/// Whether there are too many labels, or one has no key, or a long key or value.
 fn has_bad_labels(labels: &Labels) -> bool
     ensures { result ≡ has_bad_labels labels.now }
 {
@@ -125,7 +117,7 @@ fn has_bad_attempts(policy: &Option<DeadLetterPolicy>) -> bool
     ensures { result ≡ has_bad_attempts policy.now }
 {
     match policy {
-        Some(policy) => is_outside(5, 100, u64::from(policy.attempts)),
+        Some(policy) => policy.attempts < LEAST_ATTEMPTS || MOST_ATTEMPTS < policy.attempts,
         None => false,
     }
 }

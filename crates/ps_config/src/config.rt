@@ -1,6 +1,7 @@
 ghost use Rattle.std.specs.Prelude.{◌≡◌};
 ghost use Rattle.ps_config.specs.Masks.{default_topic, default_sub};
 
+use crate::limits::{DEFAULT_ACK_SECONDS, DEFAULT_EXPIRATION, DEFAULT_RETENTION};
 use ps_base::{Duplicate, Labels, OutOfMemory, Text};
 use ps_names::TopicName;
 use std::alloc::Global;
@@ -64,18 +65,17 @@ impl TopicConfig {
 }
 
 impl SubConfig {
-    /// The settings of a subscription that asks for none: leases of 10 seconds, messages kept for 7 days, and the
-    /// subscription itself for 31 days without use.
+    /// The settings of a subscription that asks for none.
     pub fn new(alloc: Global) -> SubConfig
         ensures { result ≡ default_sub }
     {
         SubConfig {
-            ack_seconds: 10,
+            ack_seconds: DEFAULT_ACK_SECONDS,
             retain_acked: false,
-            retention: 604_800_000,
+            retention: DEFAULT_RETENTION,
             labels: Labels::new(alloc),
             ordering: false,
-            expiration: Some(2_678_400_000),
+            expiration: Some(DEFAULT_EXPIRATION),
             filter: Text::from_string(String::new(alloc)),
             dead_letter: None,
             retry: None,

@@ -27,7 +27,7 @@ impl Duplicate for Mask {
     }
 }
 
-/// Puts the value in the place of the old one, where that is masked.
+/// Puts the value in the place of the old one, if that is masked.
 fn replace<T: Drop>(old: &mut T, new: T, masked: bool)
     ensures { old.new ≡ (if masked then new else old.old) }
 {

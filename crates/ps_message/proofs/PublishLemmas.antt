@@ -4,6 +4,7 @@ use Rattle.ps_base.specs.declared.reason.Reason.{Reason}
 use Rattle.ps_message.specs.declared.message.Message.{Message}
 use Rattle.ps_base.specs.declared.reason.Reason.TheVariants.{RequestSize}
 use Rattle.std.proofs.lemmas.Bool.{lt-ltb, le-ltb}
+use Rattle.ps_message.specs.Limits.{most_messages, most_bytes}
 use Rattle.ps_message.specs.Lists.{first_of, is_empty, total}
 use Rattle.ps_message.specs.Messages.{message_checks, all_message_checks, broken, bytes_of, size_of, publish_fault}
 use Rattle.ps_message.proofs.SizeLemmas.{total-size_le_bytes, total-bytes_le}
@@ -34,20 +35,20 @@ is_first ms i place m x all lt is fault so_far =
 
 -- ---- the checks of a publish, where the count of its messages is right
 
-pub fault_of_one : (ms : List Message) (x : Reason) → (is_empty ms || nat_lt 1000 (length ms)) ≡ false → Some x ≡ first_of (all_message_checks 0 ms) → Some x ≡ publish_fault ms
-fault_of_one ms x right fault = rw right (first_of-append_some (all_message_checks 0 ms) (broken (nat_lt 10000000 (total bytes_of ms)) RequestSize ∷ []) x fault)
+pub fault_of_one : (ms : List Message) (x : Reason) → (is_empty ms || nat_lt most_messages (length ms)) ≡ false → Some x ≡ first_of (all_message_checks 0 ms) → Some x ≡ publish_fault ms
+fault_of_one ms x right fault = rw right (first_of-append_some (all_message_checks 0 ms) (broken (nat_lt most_bytes (total bytes_of ms)) RequestSize ∷ []) x fault)
 
-fault_of_all : (ms : List Message) → (is_empty ms || nat_lt 1000 (length ms)) ≡ false → None ≡ first_of (all_message_checks 0 ms) → publish_fault ms ≡ first_of (broken (nat_lt 10000000 (total bytes_of ms)) RequestSize ∷ [])
-fault_of_all ms right none = rw right (first_of-append_none (all_message_checks 0 ms) (broken (nat_lt 10000000 (total bytes_of ms)) RequestSize ∷ []) none)
+fault_of_all : (ms : List Message) → (is_empty ms || nat_lt most_messages (length ms)) ≡ false → None ≡ first_of (all_message_checks 0 ms) → publish_fault ms ≡ first_of (broken (nat_lt most_bytes (total bytes_of ms)) RequestSize ∷ [])
+fault_of_all ms right none = rw right (first_of-append_none (all_message_checks 0 ms) (broken (nat_lt most_bytes (total bytes_of ms)) RequestSize ∷ []) none)
 
-pub too_large : (ms : List Message) → (is_empty ms || nat_lt 1000 (length ms)) ≡ false → None ≡ first_of (all_message_checks 0 ms) → 10000000 < total size_of ms → Some RequestSize ≡ publish_fault ms
+pub too_large : (ms : List Message) → (is_empty ms || nat_lt most_messages (length ms)) ≡ false → None ≡ first_of (all_message_checks 0 ms) → most_bytes < total size_of ms → Some RequestSize ≡ publish_fault ms
 too_large ms right none large =
     let le = total-size_le_bytes ms in
-    let over : nat_lt 10000000 (total bytes_of ms) ≡ true = lt-ltb _ _ (omega arith) in
+    let over : nat_lt most_bytes (total bytes_of ms) ≡ true = lt-ltb _ _ (omega arith) in
     rw (fault_of_all ms right none, over) refl
 
-pub no_fault : (ms : List Message) → (is_empty ms || nat_lt 1000 (length ms)) ≡ false → None ≡ first_of (all_message_checks 0 ms) → total size_of ms ≤ 10000000 → None ≡ publish_fault ms
+pub no_fault : (ms : List Message) → (is_empty ms || nat_lt most_messages (length ms)) ≡ false → None ≡ first_of (all_message_checks 0 ms) → total size_of ms ≤ most_bytes → None ≡ publish_fault ms
 no_fault ms right none small =
-    let le = total-bytes_le ms 10000000 (omega arith) small in
-    let over : nat_lt 10000000 (total bytes_of ms) ≡ false = le-ltb _ _ le in
+    let le = total-bytes_le ms most_bytes (omega arith) small in
+    let over : nat_lt most_bytes (total bytes_of ms) ≡ false = le-ltb _ _ le in
     rw (fault_of_all ms right none, over) refl

@@ -22,7 +22,7 @@ impl Message {
     ghost use Rattle.ps_message.specs.Messages.{size_of};
 
     /// The bytes of the payload, of the attributes' keys and values, and of the ordering key together, or 2^40
-    /// where these are more.
+    /// if these are more.
     pub fn size(&self) -> u64
         ensures { result ≡ size_of self.now }
     {
@@ -34,7 +34,7 @@ impl Message {
     }
 }
 
-/// The sum, or 2^40 where it is more.
+/// The sum, or 2^40 if it is more.
 fn counted(size: u64, more: usize) -> u64
     ensures { result ≡ min (2 ^ 40) (size + more) }
 {

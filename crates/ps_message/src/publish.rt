@@ -1,36 +1,28 @@
 ghost use Rattle.std.specs.Prelude.{◌≡◌, ◌≤◌, ◌↔◌, ◌&&◌, ◌||◌, false, Some, None, length, IsOk, IfErr, nat_lt};
 ghost use Rattle.std.specs.List.{list_any};
 ghost use Rattle.ps_message.specs.Faults.{place_in};
+ghost use Rattle.ps_message.specs.Limits.{most_messages};
 ghost use Rattle.ps_message.specs.Lists.{is_empty, first_of, total};
 ghost use Rattle.ps_message.specs.Messages.{size_of, has_bad_key, has_long_value, message_checks, all_message_checks, publish_fault};
 
+use crate::limits::{
+    MOST_ATTRIBUTES, MOST_BYTES, MOST_BYTES_OF_ATTRIBUTE_KEY, MOST_BYTES_OF_ATTRIBUTE_VALUE,
+    MOST_BYTES_OF_ORDERING_KEY, MOST_MESSAGES,
+};
 use crate::message::Message;
 use ps_base::{Reason, Text};
-
-const MOST_MESSAGES: usize = 1000;
-
-const MOST_ATTRIBUTES: usize = 100;
-
-const MOST_BYTES_OF_ATTRIBUTE_KEY: usize = 256;
-
-const MOST_BYTES_OF_ATTRIBUTE_VALUE: usize = 1024;
-
-const MOST_BYTES_OF_KEY: usize = 1024;
-
-const MOST_BYTES: u64 = 10_000_000;
 
 /// The first rule of a publish that is broken.
 #[derive(Clone, Debug, Drop)]
 pub struct PublishFault {
-    /// The place of the message, from 0. None where the rule is one of all messages together.
+    /// The place of the message, from 0. None if the rule is one of all messages together.
     pub place: Option<u32>,
     pub reason: Reason,
 }
 
-/// Whether these messages may be published together: 1 to 1,000, each with a payload or an attribute, at most
-/// 100 attributes with keys of 1 to 256 bytes and values of at most 1,024, and an ordering key of at most
-/// 1,024 bytes; all together of at most 10,000,000 bytes. The error names the first rule that is broken. Takes
-/// no memory.
+/// Whether these messages may be published together: at least one and at most `MOST_MESSAGES`, each with a payload or
+/// an attribute, no attribute without a key, and none of the other limits passed by one or by all together. The error
+/// names the first rule that is broken. Takes no memory.
 pub fn check_publish(messages: &[Message]) -> Result<(), PublishFault>
     ensures ok { IsOk result ↔ (publish_fault messages.now ≡ None) }
     ensures reason { IfErr result (λ fault. publish_fault messages.now ≡ Some fault.reason) }
@@ -62,15 +54,15 @@ fn first_broken(messages: &[Message]) -> Option<Reason>
 
 /// Whether there are no messages, or too many.
 fn has_wrong_count(messages: &[Message]) -> bool
-    ensures value { result ≡ (is_empty messages.now || nat_lt 1000 (length messages.now)) }
-    ensures few { result ≡ false → length messages.now ≤ 1000 }
+    ensures value { result ≡ (is_empty messages.now || nat_lt most_messages (length messages.now)) }
+    ensures few { result ≡ false → length messages.now ≤ most_messages }
 {
-    messages.is_empty() || messages.len() > MOST_MESSAGES
+    messages.is_empty() || messages.len() > MOST_MESSAGES as usize
 }
 
 /// The first rule that one of the messages breaks for itself.
 fn first_broken_of_one(messages: &[Message]) -> Option<Reason>
-    requires { length messages.now ≤ 1000 }
+    requires { length messages.now ≤ most_messages }
     ensures { result ≡ first_of (all_message_checks 0 messages.now) }
 {
     let mut place = 0;
@@ -100,7 +92,7 @@ fn broken_at(place: u32, message: &Message) -> Option<Reason>
     if any_long_value(attributes) {
         return Some(Reason::MessageAttributeValue(place));
     }
-    if message.key.len() > MOST_BYTES_OF_KEY {
+    if message.key.len() > MOST_BYTES_OF_ORDERING_KEY {
         return Some(Reason::MessageOrderingKey(place));
     }
     None
@@ -141,7 +133,7 @@ fn has_long_value(pair: &(Text, Text)) -> bool
 
 /// The bytes of all messages together, each counted with at most 2^40.
 fn total_size(messages: &[Message]) -> u64
-    requires { length messages.now ≤ 1000 }
+    requires { length messages.now ≤ most_messages }
     ensures { result ≡ total size_of messages.now }
 {
     let mut size = 0;
