@@ -1,0 +1,4 @@
+pub mod Tokens
+pub mod Filters
+pub mod Kept
+pub mod Readings
