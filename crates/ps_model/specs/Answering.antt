@@ -1,4 +1,4 @@
--- Acknowledgements and changed deadlines, by their ids (API reference, Acknowledge and ModifyAckDeadline; Pub/Sub documentation, "Exactly-once delivery": which ids failed. That the others of the request have taken effect, and the refusal as unordered, are this project's own).
+-- Acknowledgements and changed deadlines, by their ids (API reference, Acknowledge and ModifyAckDeadline; Pub/Sub documentation, "Exactly-once delivery": which ids failed. That the other ids of the request take effect, and the refusal as unordered, are this project's own).
 use Rattle.std.specs.Prelude.{ℕ, Bool, true, ◌&&◌, not, nat_eq, List, [], Option, Some, None, map, filter, is_some, if◌then◌else◌}
 use Rattle.std.specs.List.{list_any}
 use Rattle.ps_base.specs.declared.refusal.Refusal.TheVariants.{NotFound}
@@ -19,19 +19,19 @@ use Rattle.ps_model.specs.Outcomes.{Outcome, Leaves, answers, refuses}
 abbrev pub ticket_of : AckId → Ticket
 ticket_of id = record { number = id.message; lease = id.lease }
 
--- the leases that they name on this subscription
+-- the leases that these ids name on this subscription
 abbrev pub tickets_of : SubRow → List AckId → List Ticket
 tickets_of sub ids = map ticket_of (filter (λ (id : AckId). nat_eq id.sub sub.number) ids)
 
 abbrev pub same_id : AckId → AckId → Bool
 same_id a b = nat_eq a.sub b.sub && (nat_eq a.message b.message && nat_eq a.lease b.lease)
 
--- in exactly-once mode, those that name no living lease of this subscription
+-- in exactly-once mode, the ids that name no live lease of this subscription
 abbrev pub invalid_ids : SubRow → List Slot → List AckId → List AckId
 invalid_ids sub slots ids =
     if sub.config.exactly_once then filter (λ (id : AckId). not (nat_eq id.sub sub.number && is_good true slots (ticket_of id))) (once same_id ids) else []
 
--- in exactly-once mode, those of messages before their turn
+-- in exactly-once mode, the ids of messages before their turn
 abbrev pub unordered_ids : SubRow → List Slot → List AckId → List AckId
 unordered_ids sub slots ids =
     if sub.config.exactly_once then filter (λ (id : AckId). nat_eq id.sub sub.number && is_unordered sub.config (tickets_of sub ids) slots (ticket_of id)) (once same_id ids) else []
@@ -50,12 +50,12 @@ acknowledge_ids w name ids = acknowledge_at w name ids (sub_named w name)
 abbrev pub items_of : SubRow → List (AckId × ℕ) → List (Ticket × ℕ)
 items_of sub items = map (λ (x : AckId × ℕ). (ticket_of x.0, x.1)) (filter (λ (x : AckId × ℕ). nat_eq x.0.sub sub.number) items)
 
--- in exactly-once mode, those that name no living lease of this subscription, whatever their seconds
+-- in exactly-once mode, the ids that name no live lease of this subscription, whatever their seconds
 abbrev pub unknown_ids : SubRow → List Slot → List AckId → List AckId
 unknown_ids sub slots ids =
     if sub.config.exactly_once then filter (λ (id : AckId). not (nat_eq id.sub sub.number && list_any (names (ticket_of id)) slots)) (once same_id ids) else []
 
--- the deadlines are set first, and then those with 0 seconds fail together
+-- first the deadlines are set, then the leases with 0 seconds fail together
 abbrev pub modify_at : World → ℕ → List ℕ → List (AckId × ℕ) → Option SubRow → Outcome
 modify_at w t name items None = refuses w (NotFound name)
 modify_at w t name items (Some sub) =

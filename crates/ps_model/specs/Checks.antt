@@ -11,9 +11,9 @@ use Rattle.ps_message.specs.Lists.{is_empty, first_of}
 use Rattle.ps_message.specs.Messages.{broken, publish_fault}
 use Rattle.ps_model.specs.declared.command.Command.{Command}
 use Rattle.ps_model.specs.declared.command.Command.TheVariants.{Tick, CreateTopic, UpdateTopic, GetTopic, DeleteTopic, ListTopics, ListTopicSubscriptions, ListTopicSnapshots, Publish, CreateSubscription, UpdateSubscription, GetSubscription, DeleteSubscription, ListSubscriptions, Pull, Acknowledge, ModifyAckDeadline, SeekTime, SeekSnapshot, Detach, CreateSnapshot, UpdateSnapshot, GetSnapshot, DeleteSnapshot, ListSnapshots}
-use Rattle.ps_model.specs.Filters.{filter_fault}
+use Rattle.ps_filter.specs.Filters.{filter_fault}
 
--- empty, or a filter
+-- a filter setting is empty or a filter
 abbrev pub filter_setting_fault : List ℕ → Option Reason
 filter_setting_fault [] = None
 filter_setting_fault (c ∷ cs) = filter_fault (c ∷ cs)
@@ -29,7 +29,7 @@ new_sub_fault config = first_of (
 abbrev pub has_long_deadline : AckId × ℕ → Bool
 has_long_deadline item = nat_lt 600 item.1
 
--- the first check that a command breaks and that needs no world
+-- the first check that a command breaks, of those that need no world
 abbrev pub argument_fault : Command → Option Reason
 argument_fault Tick = None
 argument_fault (CreateTopic topic config) = topic_fault whole_mask config
@@ -61,7 +61,7 @@ argument_fault (ListSnapshots project paging) = None
 abbrev pub lease_seconds : ℕ → ℕ
 lease_seconds seconds = max 10 (min seconds 600)
 
--- The form in which a command is carried out and recorded: of a pull at most 1,000 messages and the nearest seconds from 10 to 600, of an update the masked fields, with the others at their defaults.
+-- The form in which a command is carried out and recorded: a pull asks for at most 1,000 messages and for the nearest seconds from 10 to 600; an update has its masked fields, and the others at their defaults.
 abbrev pub as_read : Command → Command
 as_read (UpdateTopic topic mask config) = UpdateTopic topic mask (masked_topic mask default_topic config)
 as_read (UpdateSubscription subscription mask config) = UpdateSubscription subscription mask (masked_sub mask default_sub config)

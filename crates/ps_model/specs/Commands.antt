@@ -1,4 +1,4 @@
--- What each command leaves and answers, on the world settled at its moment t.
+-- What each command leaves and answers, in the world settled at its moment t.
 use Rattle.std.specs.Prelude.{ℕ, ◌^◌, Bool, nat_eq, Option, Some, None, if◌then◌else◌}
 use Rattle.ps_base.specs.declared.refusal.Refusal.TheVariants.{InvalidArgument, Exhausted}
 use Rattle.ps_base.specs.declared.reason.Reason.{Reason}
@@ -47,7 +47,7 @@ carried w t (ListSnapshots project paging) = list_snaps w project paging
 abbrev pub is_full : World → Bool
 is_full w = nat_eq w.count (2 ^ 50)
 
--- an argument is refused before a full record, and that before anything that the world decides
+-- a bad argument is refused first, then everything if the record is full, then what the world decides
 abbrev pub checked : World → ℕ → Command → Option Reason → Outcome
 checked w t c (Some reason) = refuses w (InvalidArgument reason)
 checked w t c None = if is_full w then refuses w Exhausted else carried w t c

@@ -1,4 +1,4 @@
--- The ten numbers that a world is told by (this project's own).
+-- The ten numbers that describe a world (this project's own).
 use Rattle.std.specs.Prelude.{Bool, true, false, length}
 use Rattle.ps_model.specs.declared.mark.Mark.{Mark}
 use Rattle.ps_model.specs.declared.mark.Mark.TheVariants.{Backlog, Leased, Ahead, Done, Gone}

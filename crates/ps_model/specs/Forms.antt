@@ -1,4 +1,4 @@
--- The bytes of each kind of value, and what reads it: a value at the front of some bytes, with the bytes after it.
+-- The bytes of each kind of value, and what reads it: a value at the start of some bytes, with the bytes after it.
 use Rattle.std.specs.Prelude.{◌≡◌, ◌<◌, ◌^◌, ℕ, zero, suc, Bool, true, false, List, [], ◌∷◌, ◌++◌, length, Result, Ok, Err, Option, Some, None, option_map, if◌then◌else◌}
 use Rattle.std.specs.Str.{is_utf8}
 use Rattle.ps_codec.specs.declared.fault.FieldError.{FieldError}
@@ -13,11 +13,11 @@ use Rattle.ps_config.specs.declared.config.DeadLetterPolicy.{DeadLetterPolicy}
 use Rattle.ps_config.specs.declared.config.RetryPolicy.{RetryPolicy}
 use Rattle.ps_names.specs.Names.{is_topic_name}
 
--- a value at the front of some bytes, with the bytes after it
+-- a value at the start of some bytes, with the bytes after it
 abbrev pub Reading : Type 0 → Type 0
 Reading A = List ℕ → Option (A × List ℕ)
 
--- what a field gives, where there is one
+-- the value of a field, if there is one
 abbrev pub found : {A : Type 0} → Result (A × List ℕ) FieldError → Option (A × List ℕ)
 found (Ok value) = Some value
 found (Err fault) = None
@@ -34,7 +34,7 @@ truth_at bytes = found (flag_at bytes)
 abbrev pub octets_at : Reading (List ℕ)
 octets_at bytes = found (bytes_at bytes)
 
--- only such values
+-- only a value that passes the test
 abbrev pub checked : {A : Type 0} → (A → Bool) → Option (A × List ℕ) → Option (A × List ℕ)
 checked test None = None
 checked test (Some value) = if test value.0 then Some value else None
@@ -45,19 +45,19 @@ checked_at test at bytes = checked test (at bytes)
 abbrev pub text_at : Reading (List ℕ)
 text_at = checked_at is_utf8 octets_at
 
--- another value from what one left
+-- joins a value to the next one, read from the bytes after it
 abbrev pub behind : {A B C : Type 0} → (A → B → C) → Reading B → Option (A × List ℕ) → Option (C × List ℕ)
 behind join at None = None
 behind join at (Some first) = option_map (λ second. (join first.0 second.0, second.1)) (at first.1)
 
--- two values, one behind the other
+-- two values, one after the other
 abbrev pub pair_form : {A B : Type 0} → (A → List ℕ) → (B → List ℕ) → A × B → List ℕ
 pair_form form form' pair = form pair.0 ++ form' pair.1
 
 abbrev pub pair_at : {A B : Type 0} → Reading A → Reading B → Reading (A × B)
 pair_at at at' bytes = behind (λ a b. (a, b)) at' (at bytes)
 
--- a flag, and behind `true` the value
+-- a flag, and after `true` the value
 abbrev pub option_form : {A : Type 0} → (A → List ℕ) → Option A → List ℕ
 option_form form None = flag_field false
 option_form form (Some value) = flag_field true ++ form value
@@ -69,16 +69,16 @@ option_behind at (Some flag) = if flag.0 then option_map (λ value. (Some value.
 abbrev pub option_at : {A : Type 0} → Reading A → Reading (Option A)
 option_at at bytes = option_behind at (truth_at bytes)
 
--- one behind the other
+-- the items, one after another
 abbrev pub each_form : {A : Type 0} → (A → List ℕ) → List A → List ℕ
 each_form form [] = []
 each_form form (x ∷ xs) = form x ++ each_form form xs
 
--- how many there are, and each
+-- the number of items, then each item
 abbrev pub list_form : {A : Type 0} → (A → List ℕ) → List A → List ℕ
 list_form form xs = u32_field (length xs) ++ each_form form xs
 
--- so many
+-- this many items
 abbrev pub each_at : {A : Type 0} → Reading A → ℕ → Reading (List A)
 each_at at zero bytes = Some ([], bytes)
 each_at at (suc n) bytes = behind (λ x xs. x ∷ xs) (each_at at n) (at bytes)
@@ -90,18 +90,18 @@ list_behind at (Some count) = each_at at count.0 count.1
 abbrev pub list_at : {A : Type 0} → Reading A → Reading (List A)
 list_at at bytes = list_behind at (number32_at bytes)
 
--- a value made of another
+-- a value made from another one
 abbrev pub made_at : {A B : Type 0} → (A → B) → Reading A → Reading B
 made_at make at bytes = option_map (λ value. (make value.0, value.1)) (at bytes)
 
--- pairs of key and value, the keys in ascending order and each once
+-- pairs of key and value, with distinct keys in ascending order
 abbrev pub labels_form : List (List ℕ × List ℕ) → List ℕ
 labels_form = list_form (pair_form bytes_field bytes_field)
 
 abbrev pub labels_at : Reading (List (List ℕ × List ℕ))
 labels_at = checked_at has_ascending_keys (list_at (pair_at text_at text_at))
 
--- ---- the values that have a spelling: each length and count fits four bytes
+-- ---- the values that have an encoding: each length and count fits four bytes
 
 abbrev pub IsShort : List ℕ → Type 0
 IsShort bytes = length bytes < 2 ^ 32
@@ -120,7 +120,7 @@ EachFits Fits (x ∷ xs) = Fits x × EachFits Fits xs
 abbrev pub ListFits : {A : Type 0} → (A → Type 0) → List A → Type 0
 ListFits Fits xs = (length xs < 2 ^ 32) × EachFits Fits xs
 
--- such values, which the test lets through
+-- values that fit and pass the test
 abbrev pub CheckedFits : {A : Type 0} → (A → Bool) → (A → Type 0) → A → Type 0
 CheckedFits test Fits value = Fits value × (test value ≡ true)
 
@@ -209,11 +209,11 @@ AckIdFits id = IsBelow64 id.sub × (IsBelow64 id.message × IsBelow64 id.lease)
 abbrev pub lives_form : SubConfig → List ℕ
 lives_form c = u32_field c.ack_seconds ++ (flag_field c.retain_acked ++ (u64_field c.retention ++ labels_form c.labels))
 
--- which messages enter and in which order they go out, and when the subscription ends
+-- which messages enter and in which order they are delivered, and when the subscription expires
 abbrev pub entering_form : SubConfig → List ℕ
 entering_form c = flag_field c.ordering ++ (option_form u64_field c.expiration ++ bytes_field c.filter)
 
--- what becomes of a message whose lease ended
+-- what happens to a message whose lease ended
 abbrev pub failing_form : SubConfig → List ℕ
 failing_form c = option_form dead_letter_policy_form c.dead_letter ++ (option_form retry_policy_form c.retry ++ flag_field c.exactly_once)
 

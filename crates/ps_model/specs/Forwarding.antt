@@ -11,17 +11,17 @@ use Rattle.ps_model.specs.declared.world.SubRow.{SubRow}
 use Rattle.ps_model.specs.declared.world.MessageRow.{MessageRow}
 use Rattle.ps_model.specs.declared.world.MarkRow.{MarkRow}
 use Rattle.ps_names.specs.Names.{project_part, id_part}
-use Rattle.ps_model.specs.Filters.{meets}
+use Rattle.ps_filter.specs.Filters.{meets}
 use Rattle.ps_model.specs.Timestamps.{timestamp}
 use Rattle.ps_model.specs.Seeking.{fresh}
 use Rattle.ps_model.specs.Worlds.{topic_named, message_at}
 
--- messages as they are kept, with the topic that they go to, numbered on from this number
+-- the rows of new messages of this topic, numbered from this number on
 abbrev pub message_rows : ℕ → ℕ → ℕ → List Message → List MessageRow
 message_rows topic number t [] = []
 message_rows topic number t (m ∷ ms) = record { number = number; topic = topic; publish = t; message = m; kept = true } ∷ message_rows topic (number + 1) t ms
 
--- a new message enters a subscription of its topic that isn't detached and whose filter it meets
+-- a new message enters a subscription of its topic that isn't detached and whose filter it matches
 abbrev pub enters : SubRow → MessageRow → Bool
 enters sub r = nat_eq r.topic sub.topic && (not sub.detached && meets sub.config.filter r.message)
 
@@ -29,7 +29,7 @@ enters sub r = nat_eq r.topic sub.topic && (not sub.detached && meets sub.config
 abbrev pub entered : SubRow → List MessageRow → List MarkRow
 entered sub rows = map (λ (r : MessageRow). record { sub = sub.number; message = r.number; mark = fresh }) (filter (enters sub) rows)
 
--- a mark behind those of its subscription
+-- a mark is added after those of its subscription
 abbrev pub enter : MarkRow → List MarkRow → List MarkRow
 enter r [] = r ∷ []
 enter r (x ∷ xs) = if nat_lt r.sub x.sub then r ∷ (x ∷ xs) else x ∷ enter r xs
@@ -49,14 +49,14 @@ add_messages rows w = record w {
   marks = marks_with w rows;
 }
 
--- Dead letters, with the subscription that they come from.
+-- A dead letter, with the subscription that it comes from.
 pub record Letter : Type 0 where
   pub from : SubRow
   pub topic : TopicRow
   pub source : MessageRow
   pub failures : ℕ
 
--- the attributes with one set, in byte order of the keys
+-- the attributes with this one set, in byte order of the keys
 abbrev pub set_attribute : List ℕ → List ℕ → List (List ℕ × List ℕ) → List (List ℕ × List ℕ)
 set_attribute key value [] = (key, value) ∷ []
 set_attribute key value (p ∷ ps) =
@@ -79,7 +79,7 @@ abbrev pub letter_rows : ℕ → ℕ → List Letter → List MessageRow
 letter_rows number t [] = []
 letter_rows number t (l ∷ ls) = record { number = number; topic = l.topic.number; publish = t; message = letter_message l; kept = true } ∷ letter_rows (number + 1) t ls
 
--- the dead letters published at t, in order of subscription, then of message
+-- the world after the dead letters are published at t, in order of subscription, then of message
 abbrev pub forward : ℕ → List Letter → World → World
 forward t letters w = add_messages (letter_rows w.next_message t letters) w
 
@@ -87,11 +87,11 @@ forward t letters w = add_messages (letter_rows w.next_message t letters) w
 abbrev pub dead_topic : World → SubRow → Option TopicRow
 dead_topic w sub = option_and_then (λ (p : DeadLetterPolicy). topic_named w p.topic) sub.config.dead_letter
 
--- the letter of one dead message, where its topic is there
+-- the letter of one dead message, if its topic exists
 abbrev pub letter_of : SubRow → Option TopicRow → MessageRow → ℕ → List Letter
 letter_of sub None source failures = []
 letter_of sub (Some topic) source failures = record { from = sub; topic = topic; source = source; failures = failures } ∷ []
 
--- those of one subscription
+-- the letters of one subscription
 abbrev pub letters_of : World → SubRow → List DeadLetter → List Letter
 letters_of w sub dead = flat_map (λ (d : DeadLetter). letter_of sub (dead_topic w sub) (message_at w.messages d.number) d.failures) dead

@@ -6,11 +6,11 @@ use Rattle.ps_model.specs.declared.reply.Reply.{Reply}
 use Rattle.ps_model.specs.declared.world.World.{World}
 use Rattle.ps_model.specs.Step.{step, entry_of, reply}
 
--- what would be recorded of the entry's own command at its own moment is this entry
+-- the entry is what would be recorded for its own command at its own moment
 abbrev pub IsAccepted : World → Entry → Type 0
 IsAccepted w e = entry_of w e.now e.command ≡ Some e
 
--- each entry is accepted by the world that the ones before it give
+-- each entry is accepted in the world after the entries before it
 abbrev pub IsHistory : World → List Entry → Type 0
 IsHistory w [] = Unit {0}
 IsHistory w (e ∷ es) = IsAccepted w e × IsHistory (step w e) es
@@ -31,7 +31,7 @@ abbrev pub after_calls : World → List (ℕ × Command) → World
 after_calls w [] = w
 after_calls w (c ∷ cs) = after_calls (called w c) cs
 
--- what each call of a run is told
+-- the reply to each call of a run
 abbrev pub replies : World → List (ℕ × Command) → List Reply
 replies w [] = []
 replies w (c ∷ cs) = reply w c.0 c.1 ∷ replies (called w c) cs

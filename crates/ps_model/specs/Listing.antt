@@ -27,21 +27,21 @@ module _ {A : Type 0} (name : A → List ℕ) where
   sorted_by [] = []
   sorted_by (x ∷ xs) = insert_by x (sorted_by xs)
 
-  -- the names behind the token
+  -- the names after the token
   abbrev pub after_token : List ℕ → List A → List A
   after_token token xs = filter (λ x. is_below token (name x)) (sorted_by xs)
 
-  -- the last name of the page, where more remain
+  -- the last name of the page, which is the next token if more remain
   abbrev pub last_name : List A → Option (List ℕ)
   last_name [] = None
   last_name (x ∷ []) = Some (name x)
   last_name (x ∷ y ∷ ys) = last_name (y ∷ ys)
 
--- 0 is 100, and above 1,000 is 1,000
+-- 0 counts as 100, and more than 1,000 as 1,000
 abbrev pub page_size : ℕ → ℕ
 page_size size = if nat_eq size 0 then 100 else min size 1000
 
--- the first names behind the token, and the next token where more remain
+-- the first names after the token, and the next token if more remain
 abbrev pub page_of : {A : Type 0} → (A → List ℕ) → (List A → PageItems) → Paging → List A → Reply
 page_of name items paging xs =
     let rest = after_token name paging.after xs in

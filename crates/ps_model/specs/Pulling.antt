@@ -1,4 +1,4 @@
--- Handing messages out (API reference, Pull; Pub/Sub documentation, "Dead-letter topics": the delivery attempt is shown only with a dead-letter policy).
+-- Delivering messages (API reference, Pull; Pub/Sub documentation, "Dead-letter topics": the delivery attempt is shown only with a dead-letter policy).
 use Rattle.std.specs.Prelude.{ℕ, ◌+◌, ◌*◌, Bool, true, false, List, Option, Some, None, map, length, is_some, unwrap_or, if◌then◌else◌}
 use Rattle.ps_base.specs.declared.refusal.Refusal.TheVariants.{NotFound, FailedPrecondition}
 use Rattle.ps_base.specs.declared.reason.Reason.TheVariants.{Detached}
@@ -23,7 +23,7 @@ received sub h r = record {
 abbrev pub received_all : World → SubRow → List Handed → List ReceivedMessage
 received_all w sub given = map (λ (h : Handed). received sub h (message_at w.messages h.number)) given
 
--- the choice goes out under the next leases, which live so many seconds
+-- the choice is delivered under the next leases, which last this many seconds
 abbrev pub pull_from : World → ℕ → SubRow → ℕ → ℕ → ℕ → Bool → Outcome
 pull_from w t sub most budget seconds true = refuses w (FailedPrecondition Detached)
 pull_from w t sub most budget seconds false =

@@ -14,11 +14,11 @@ use Rattle.ps_model.specs.declared.world.MessageRow.{MessageRow}
 use Rattle.ps_model.specs.Slots.{remark, is_gone}
 use Rattle.ps_model.specs.Seeking.{fresh, sought_mark}
 use Rattle.ps_model.specs.Retention.{is_held_by}
-use Rattle.ps_model.specs.Filters.{meets}
+use Rattle.ps_filter.specs.Filters.{meets}
 use Rattle.ps_model.specs.Worlds.{sub_named, snap_named, hold_of, item_at, slots_of, remark_at, with_slots_at}
 use Rattle.ps_model.specs.Outcomes.{Outcome, answers, refuses}
 
--- a message that a snapshot brings back, in its place by number
+-- the slots with a message that a snapshot brings back, in its place by number
 abbrev pub bring_back : Item → List Slot → List Slot
 bring_back item [] = record { item = item; mark = fresh } ∷ []
 bring_back item (s ∷ ss) =
@@ -34,11 +34,11 @@ abbrev pub bring_all : List Item → List Slot → List Slot
 bring_all [] slots = slots
 bring_all (item ∷ items) slots = bring_all items (bring_back item slots)
 
--- to a list of messages: these are open again, all else is acknowledged
+-- a seek to a list of messages: these are in the backlog again, all else that isn't gone is acknowledged
 abbrev pub seek_list : List Item → List Slot → List Slot
 seek_list items slots = bring_all items (map put_aside slots)
 
--- the messages that a snapshot holds and that meet the subscription's filter
+-- the messages that a snapshot holds and that match the subscription's filter
 abbrev pub held_items : World → SubRow → SnapRow → List Item
 held_items w sub snap = map (λ (r : MessageRow). item_at r.number r)
     (filter (λ (r : MessageRow). nat_eq r.topic snap.topic && (is_held_by r.number (hold_of snap) && meets sub.config.filter r.message)) w.messages)

@@ -1,4 +1,4 @@
--- Tests that compute whether two values are one, for what a command can change.
+-- Tests that compute whether two values are the same, for what a command can change.
 use Rattle.std.specs.Prelude.{ℕ, Bool, true, false, ◌&&◌, nat_eq, List, Option, Some, None}
 use Rattle.std.specs.Cmp.Lexicographic.{pointwise}
 use Rattle.ps_model.specs.declared.mark.Mark.{Mark}
@@ -34,7 +34,7 @@ same_option same (Some x) None = false
 abbrev pub same_pair : {A B : Type 0} → (A → A → Bool) → (B → B → Bool) → A × B → A × B → Bool
 same_pair first second a b = first a.0 b.0 && second a.1 b.1
 
--- two values that show the same
+-- the two values are the same in the parts that this function gives
 abbrev pub same_by : {A B : Type 0} → (A → B) → (B → B → Bool) → A → A → Bool
 same_by shows same a b = same (shows a) (shows b)
 
@@ -129,14 +129,14 @@ mark_row_parts r = (r.sub, (r.message, r.mark))
 abbrev pub same_mark_row : MarkRow → MarkRow → Bool
 same_mark_row = same_by mark_row_parts (same_pair nat_eq (same_pair nat_eq same_mark))
 
--- all of a world but `now` and `count`
+-- everything of a world but `now` and `count`
 abbrev pub WorldParts : Type 0
 WorldParts = ℕ × (ℕ × (ℕ × (ℕ × (List TopicRow × (List SubRow × (List SnapRow × (List MessageRow × List MarkRow)))))))
 
 abbrev pub world_parts : World → WorldParts
 world_parts w = (w.next_topic, (w.next_sub, (w.next_snap, (w.next_message, (w.topics, (w.subs, (w.snaps, (w.messages, w.marks))))))))
 
--- the two worlds differ in `now` and `count` alone, if at all
+-- the two worlds differ at most in `now` and `count`
 abbrev pub same_world : World → World → Bool
 same_world = same_by world_parts
     (same_pair nat_eq (same_pair nat_eq (same_pair nat_eq (same_pair nat_eq

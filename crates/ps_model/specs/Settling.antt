@@ -1,4 +1,4 @@
--- What the moment alone brings, in four phases: snapshots that end, leases that end, dead letters, and what nothing holds any more (Pub/Sub documentation, "Lease management", "Dead-letter topics", "Replay and purge messages with Seek"; the order of the phases, and that a lease ends at the very moment of its deadline, are this project's own).
+-- What the moment alone changes, in four phases: snapshots that expire, leases that end, dead letters, and what nothing holds any more (Pub/Sub documentation, "Lease management", "Dead-letter topics", "Replay and purge messages with Seek"; the order of the phases, and that a lease ends exactly at its deadline, are this project's own).
 use Rattle.std.specs.Prelude.{ℕ, Bool, ◌&&◌, ◌||◌, not, nat_eq, nat_le, List, map, filter, flat_map, is_some}
 use Rattle.std.specs.List.{list_any}
 use Rattle.ps_model.specs.declared.world.World.{World}
@@ -13,11 +13,11 @@ use Rattle.ps_model.specs.Retention.{expired_mark, caught_up_mark, released_mark
 use Rattle.ps_model.specs.Worlds.{slots_of, remark_all, holds_of}
 use Rattle.ps_model.specs.Forwarding.{Letter, letters_of, dead_topic, forward}
 
--- snapshots end at the moment of their expiry
+-- snapshots go at the moment of their expiry
 abbrev pub drop_snapshots : ℕ → World → World
 drop_snapshots t w = record w { snaps = filter (λ (r : SnapRow). not (nat_le r.expiry t)) w.snaps }
 
--- for each subscription the leases that are over fail together
+-- on each subscription the leases that are over fail together
 abbrev pub end_leases : ℕ → World → World
 end_leases t w = remark_all (λ sub. mark_after_failing (is_due t) t (is_some (dead_topic w sub)) sub.config) w
 
@@ -34,7 +34,7 @@ catch_up w = remark_all (λ sub. caught_up_mark sub.config.ordering) w
 abbrev pub release : ℕ → World → World
 release t w = remark_all (λ sub slots. released_mark t sub.config (holds_of w sub.topic)) w
 
--- some mark isn't gone, or it is within its topic's window, or a snapshot holds it
+-- some mark of the message isn't gone, or the message is within its topic's window, or a snapshot holds it
 abbrev pub is_wanted : ℕ → List MarkRow → Holds → MessageRow → Bool
 is_wanted t marks holds r =
     list_any (λ (m : MarkRow). nat_eq m.message r.number && not (is_gone m.mark)) marks
@@ -43,7 +43,7 @@ is_wanted t marks holds r =
 abbrev pub let_go : ℕ → World → MessageRow → MessageRow
 let_go t w r = record r { kept = r.kept && is_wanted t w.marks (holds_of w r.topic) r }
 
--- the three parts on every subscription, and then messages that nothing wants
+-- the three parts on every subscription, then the messages that nothing needs
 abbrev pub expunge_world : ℕ → World → World
 expunge_world t w =
     let gone = release t (catch_up (expire t w)) in

@@ -7,7 +7,7 @@ use Rattle.ps_model.specs.declared.mark.Mark.{Mark}
 use Rattle.ps_model.specs.declared.mark.Mark.TheVariants.{Backlog, Leased, Ahead, Done, Gone}
 use Rattle.ps_model.specs.declared.mark.Slot.{Slot}
 
--- not yet acknowledged: it waits, or it is out
+-- not yet acknowledged: in the backlog or leased
 abbrev pub is_unacked : Mark → Bool
 is_unacked (Backlog failures until last) = true
 is_unacked (Leased failures lease deadline) = true
@@ -58,7 +58,7 @@ failures_of (Ahead failures) = failures
 failures_of (Done cause) = 0
 failures_of (Gone cause) = 0
 
--- it is out under this lease
+-- it is leased under this lease
 abbrev pub is_out : ℕ → Mark → Bool
 is_out lease (Backlog failures until last) = false
 is_out lease (Leased failures own deadline) = nat_eq own lease
@@ -66,7 +66,7 @@ is_out lease (Ahead failures) = false
 is_out lease (Done cause) = false
 is_out lease (Gone cause) = false
 
--- on an ordered subscription e is an earlier message of the key of s, which isn't empty
+-- on an ordered subscription, e is an earlier message of the key of s, and the key isn't empty
 abbrev pub is_earlier : Bool → Slot → Slot → Bool
 is_earlier ordering e s = ordering && (nat_lt e.item.number s.item.number && (not (is_empty s.item.key) && bytes_eq e.item.key s.item.key))
 
@@ -78,6 +78,6 @@ any_earlier ordering test slots s = list_any (λ e. is_earlier ordering e s && t
 abbrev pub remark : Slot → Mark → Slot
 remark s mark = record { item = s.item; mark = mark }
 
--- the slots where each has the mark that a rule gives it: the form of every rule that adds no message
+-- the slots, each with the mark that a rule gives it: the form of every rule that adds no message
 abbrev pub remarked : (Slot → Mark) → List Slot → List Slot
 remarked rule slots = map (λ s. remark s (rule s)) slots

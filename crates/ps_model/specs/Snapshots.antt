@@ -1,4 +1,4 @@
--- Snapshots as resources (API reference, CreateSnapshot: what a snapshot holds, its lifetime of 7 days from the oldest unacknowledged message, and that it is refused where less than an hour would be left. That messages ahead aren't listed is this project's own).
+-- Snapshots as resources (API reference, CreateSnapshot: what a snapshot holds, its lifetime of 7 days from the oldest unacknowledged message, and that it is refused if less than an hour would be left. That messages ahead aren't listed is this project's own).
 use Rattle.std.specs.Prelude.{ℕ, ◌+◌, ◌-◌, min, not, nat_eq, nat_lt, List, [], ◌∷◌, ◌++◌, Option, Some, None, map, filter, is_none, if◌then◌else◌}
 use Rattle.ps_base.specs.declared.refusal.Refusal.TheVariants.{NotFound, AlreadyExists, FailedPrecondition}
 use Rattle.ps_base.specs.declared.reason.Reason.TheVariants.{Detached, TopicDeleted, SnapshotLifetime}
@@ -16,11 +16,11 @@ use Rattle.ps_model.specs.Outcomes.{Outcome, Shows, answers, refuses}
 abbrev pub lifetime : ℕ
 lifetime = 604800000
 
--- what the subscription has not acknowledged
+-- the unacknowledged messages of the subscription
 abbrev pub open_slots : World → SubRow → List Slot
 open_slots w sub = filter (λ s. is_unacked s.mark) (slots_of w sub.number)
 
--- the least publish moment, or t where there is none
+-- the earliest publish moment, or t if there is none
 abbrev pub oldest : ℕ → List Slot → ℕ
 oldest t [] = t
 oldest t (s ∷ []) = s.item.publish
@@ -37,7 +37,7 @@ new_snap w t name sub labels = record {
   expiry = lifetime + oldest t (open_slots w sub);
 }
 
--- refused where it would end within the hour
+-- refused if it would expire within the hour
 abbrev pub create_snap_in : World → ℕ → SubRow → SnapRow → Outcome
 create_snap_in w t sub row =
     if sub.detached then refuses w (FailedPrecondition Detached)

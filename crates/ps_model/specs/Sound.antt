@@ -1,4 +1,4 @@
--- What holds of every world that a history reaches, in eight parts.
+-- What holds in every world that a history reaches, in eight parts.
 use Rattle.std.specs.Prelude.{ℕ, ◌≡◌, ◌≢◌, ◌+◌, ◌-◌, ◌*◌, ◌^◌, ◌<◌, ◌≤◌, ◌⊎◌, Bool, true, false, IfSome, List, [], ◌∷◌, Option, Some, None, is_some}
 use Rattle.std.specs.List.{AllByRecursion}
 use Rattle.ps_base.specs.Moments.{last_moment}
@@ -13,7 +13,7 @@ use Rattle.ps_model.specs.declared.world.MessageRow.{MessageRow}
 use Rattle.ps_model.specs.declared.world.MarkRow.{MarkRow}
 use Rattle.ps_model.specs.Slots.{is_gone, is_leased, is_backlog, is_ahead, is_unacked, any_earlier}
 use Rattle.ps_model.specs.Lists.{tally}
-use Rattle.ps_model.specs.Filters.{meets}
+use Rattle.ps_filter.specs.Filters.{meets}
 use Rattle.ps_model.specs.Retention.{is_held_by, holds}
 use Rattle.ps_config.specs.Masks.{whole_mask}
 use Rattle.ps_model.specs.Worlds.{sub_numbered, message_numbered, message_at, slots_of, hold_of, holds_of}
@@ -21,7 +21,7 @@ use Rattle.ps_model.specs.Settling.{is_wanted}
 use Rattle.ps_config.specs.Limits.{topic_fault, labels_fault}
 use Rattle.ps_model.specs.Checks.{new_sub_fault}
 
--- each member stands so to each later one
+-- each item is in this relation to each later one
 abbrev pub Ordered : {A : Type 0} → (A → A → Type 0) → List A → Type 0
 Ordered R [] = Unit {0}
 Ordered R (x ∷ xs) = AllByRecursion (R x) xs × Ordered R xs
@@ -30,11 +30,11 @@ Ordered R (x ∷ xs) = AllByRecursion (R x) xs × Ordered R xs
 abbrev pub Precedes : MarkRow → MarkRow → Type 0
 Precedes a b = (a.sub < b.sub) ⊎ ((a.sub ≡ b.sub) × (a.message < b.message))
 
--- a mark names what is listed
+-- the mark names a listed subscription and a listed message
 abbrev pub IsNamed : World → MarkRow → Type 0
 IsNamed w r = (is_some (sub_numbered w r.sub) ≡ true) × (is_some (message_numbered w.messages r.message) ≡ true)
 
--- First: numbers ascend and are below the next ones, names are distinct, settings pass their checks, and marks stand in order, one for each pair of what is listed.
+-- First: numbers ascend and are below the next ones, names are distinct, settings pass their checks, and marks are in order, at most one for each pair of a listed subscription and a listed message.
 pub record IsOrdered (w : World) : Type 0 where
   pub topics : Ordered (λ (a b : TopicRow). a.number < b.number) w.topics
   pub topics_below : AllByRecursion (λ (r : TopicRow). r.number < w.next_topic) w.topics
@@ -61,13 +61,13 @@ pub record IsOrdered (w : World) : Type 0 where
   pub leases_from : AllByRecursion (λ (r : SubRow). 1 ≤ r.next_lease) w.subs
   pub count : w.count ≤ 2 ^ 50
 
--- Second: publish moments don't fall with the number, and none is to come.
+-- Second: publish moments don't decrease with the number, and none is in the future.
 pub record IsInTime (w : World) : Type 0 where
   pub now : w.now ≤ last_moment
   pub publishes : Ordered (λ (a b : MessageRow). a.publish ≤ b.publish) w.messages
   pub past : AllByRecursion (λ (r : MessageRow). r.publish ≤ w.now) w.messages
 
--- a message that a subscription still has is kept, is of the subscription's topic and meets its filter
+-- a message that a subscription still has is kept, belongs to the subscription's topic and matches its filter
 abbrev pub WantedAt : World → MessageRow → Option SubRow → Mark → Type 0
 WantedAt w m None mark = ⊥
 WantedAt w m (Some sub) mark = is_gone mark ≡ false → record { kept : m.kept ≡ true; topic : m.topic ≡ sub.topic; met : meets sub.config.filter m.message ≡ true }
@@ -75,7 +75,7 @@ WantedAt w m (Some sub) mark = is_gone mark ≡ false → record { kept : m.kept
 abbrev pub IsWanted : World → MarkRow → Type 0
 IsWanted w r = WantedAt w (message_at w.messages r.message) (sub_numbered w r.sub) r.mark
 
--- a listed message is there, is of the snapshot's topic and is kept
+-- a listed message exists, belongs to the snapshot's topic and is kept
 abbrev pub IsListedIn : World → SnapRow → ℕ → Type 0
 IsListedIn w snap number = record {
   there : is_some (message_numbered w.messages number) ≡ true;
@@ -87,7 +87,7 @@ IsListedIn w snap number = record {
 abbrev pub KeepsWhatItHolds : SnapRow → MessageRow → Type 0
 KeepsWhatItHolds snap m = m.topic ≡ snap.topic → is_held_by m.number (hold_of snap) ≡ true → m.kept ≡ true
 
--- Third: what a mark or a snapshot asks for is kept, and what is kept is asked for.
+-- Third: what a mark or a snapshot needs is kept, and what is kept is needed.
 pub record IsKeeping (w : World) : Type 0 where
   pub marks : AllByRecursion (IsWanted w) w.marks
   pub listed : AllByRecursion (λ (r : SnapRow). AllByRecursion (IsListedIn w r) r.listed) w.snaps
@@ -97,19 +97,19 @@ pub record IsKeeping (w : World) : Type 0 where
   pub snap_topics : AllByRecursion (λ (r : SnapRow). r.topic < w.next_topic) w.snaps
   pub message_topics : AllByRecursion (λ (r : MessageRow). r.topic < w.next_topic) w.messages
 
--- the test of each message of each subscription
+-- each message of each subscription passes the test
 abbrev pub OnEachSlot : World → (SubRow → List Slot → Slot → Type 0) → Type 0
 OnEachSlot w P = AllByRecursion (λ (sub : SubRow). AllByRecursion (P sub (slots_of w sub.number)) (slots_of w sub.number)) w.subs
 
--- Fourth: on an ordered subscription nothing earlier of its key waits before what is out, so the leased messages of a key are a prefix of its unacknowledged ones.
+-- Fourth: on an ordered subscription, no message of the backlog is earlier than a leased one of its key, so the leased messages of a key are a prefix of its unacknowledged ones.
 abbrev pub IsLeasedInOrder : SubRow → List Slot → Slot → Type 0
 IsLeasedInOrder sub slots s = is_leased s.mark ≡ true → any_earlier sub.config.ordering (λ e. is_backlog e.mark) slots s ≡ false
 
--- Fifth: what is ahead has an earlier unacknowledged message of its key, on an ordered subscription.
+-- Fifth: a message that is ahead is on an ordered subscription and has an earlier unacknowledged message of its key.
 abbrev pub IsAheadOfOne : SubRow → List Slot → Slot → Type 0
 IsAheadOfOne sub slots s = is_ahead s.mark ≡ true → any_earlier sub.config.ordering (λ e. is_unacked e.mark) slots s ≡ true
 
--- moments and leases of a mark, on a subscription whose next lease is this
+-- the moments and the lease of a mark fit, on a subscription whose next lease is this
 abbrev pub MarkFits : ℕ → ℕ → Mark → Type 0
 MarkFits now next (Leased failures lease deadline) = record { lent : lease < next; lives : now < deadline; near : deadline ≤ now + 600000 }
 MarkFits now next (Backlog failures until last) = record { near : until ≤ now + 600000; lent : IfSome last (λ lease. lease < next) }
@@ -124,7 +124,7 @@ FitsAt now (Some sub) mark = MarkFits now sub.next_lease mark
 abbrev pub RowFits : World → MarkRow → Type 0
 RowFits w r = FitsAt w.now (sub_numbered w r.sub) r.mark
 
--- Sixth: leases were lent, and nothing that ends has ended or is too far.
+-- Sixth: each lease was issued, and nothing that ends has ended already or ends too far ahead.
 pub record IsNear (w : World) : Type 0 where
   pub marks : AllByRecursion (RowFits w) w.marks
   pub snaps_live : AllByRecursion (λ (r : SnapRow). w.now < r.expiry) w.snaps
@@ -133,7 +133,7 @@ pub record IsNear (w : World) : Type 0 where
 abbrev pub leases_alive : World → ℕ
 leases_alive w = tally (λ (r : MarkRow). is_leased r.mark) w.marks
 
--- Seventh: an entry makes at most 1,000 messages or leases, and one of anything else.
+-- Seventh: an entry makes at most 1,000 messages or leases, and at most one of anything else.
 pub record IsWithinCount (w : World) : Type 0 where
   pub messages : (w.next_message - 1) + leases_alive w ≤ 1000 * w.count
   pub leases : AllByRecursion (λ (r : SubRow). r.next_lease - 1 ≤ 1000 * w.count) w.subs
@@ -141,7 +141,7 @@ pub record IsWithinCount (w : World) : Type 0 where
   pub subs : w.next_sub ≤ w.count + 1
   pub snaps : w.next_snap ≤ w.count + 1
 
--- Eighth: what isn't gone is held, and on a detached subscription all is gone.
+-- Eighth: what isn't gone is held, and on a detached subscription everything is gone.
 abbrev pub IsHeldWhere : Bool → World → SubRow → Slot → Type 0
 IsHeldWhere true w sub s = is_gone s.mark ≡ true
 IsHeldWhere false w sub s = is_gone s.mark ≡ false → holds w.now sub.config (holds_of w sub.topic) s ≡ true
@@ -149,7 +149,7 @@ IsHeldWhere false w sub s = is_gone s.mark ≡ false → holds w.now sub.config 
 abbrev pub IsHeldOrGone : World → SubRow → Slot → Type 0
 IsHeldOrGone w sub s = IsHeldWhere sub.detached w sub s
 
--- What the types keep stands in them and not here: names are in the grammar, keys of labels and attributes ascend, and numbers fit their widths.
+-- What the types guarantee isn't repeated here: names are in the grammar, keys of labels and attributes ascend, and numbers fit their widths.
 pub record IsSound (w : World) : Type 0 where
   pub ordered : IsOrdered w
   pub in_time : IsInTime w

@@ -1,4 +1,4 @@
--- Where a message stands on a subscription, in the words of the documentation (Pub/Sub documentation, "Subscription overview", "Replay and purge messages with Seek", "Dead-letter topics": outstanding, acknowledged, dead-lettered and expired messages).
+-- The standing of a message on a subscription, in the words of the documentation (Pub/Sub documentation, "Subscription overview", "Replay and purge messages with Seek", "Dead-letter topics": outstanding, acknowledged, dead-lettered and expired messages).
 use Rattle.std.specs.Prelude.{ℕ, ◌&&◌, not, nat_eq, Option, Some, None, find, if◌then◌else◌}
 use Rattle.ps_model.specs.declared.mark.Mark.{Mark}
 use Rattle.ps_model.specs.declared.mark.Mark.TheVariants.{Backlog, Leased, Ahead, Done, Gone}
@@ -10,7 +10,7 @@ use Rattle.ps_model.specs.declared.world.World.{World}
 use Rattle.ps_model.specs.declared.world.SubRow.{SubRow}
 use Rattle.ps_model.specs.declared.world.MessageRow.{MessageRow}
 use Rattle.ps_model.specs.declared.world.MarkRow.{MarkRow}
-use Rattle.ps_model.specs.Filters.{meets}
+use Rattle.ps_filter.specs.Filters.{meets}
 
 pub data Standing : Type 0 where
   InBacklog : Standing
@@ -38,7 +38,7 @@ standing_with (Gone cause) = standing_when_gone cause
 abbrev pub mark_row : World → ℕ → ℕ → Option MarkRow
 mark_row w sub message = find (λ (r : MarkRow). nat_eq r.sub sub && nat_eq r.message message) w.marks
 
--- one that never entered is acknowledged where the filter kept it out, and else has no standing
+-- a message that never entered is acknowledged if the filter kept it out, and otherwise has no standing
 abbrev pub standing_by : SubRow → MessageRow → Option MarkRow → Option Standing
 standing_by sub r (Some mark) = Some (standing_with mark.mark)
 standing_by sub r None = if nat_eq r.topic sub.topic && not (meets sub.config.filter r.message) then Some IsAcknowledged else None

@@ -29,15 +29,15 @@ empty_world = record {
   marks = [];
 }
 
--- a call's moment: never before the last entry, and at most the last one of the year 9999
+-- the moment of a call: never before the last entry, and at most the last one of the year 9999
 abbrev pub moment : World → ℕ → ℕ
 moment w at = min (max at w.now) last_moment
 
--- the world on which a call at t is carried out; a full record is closed, and nothing settles
+-- the world in which a call at t is carried out; a full record is closed, and nothing settles
 abbrev pub settled : ℕ → World → World
 settled t w = if is_full w then w else settle t w
 
--- the world after the command, its dead letters and what nothing holds then
+-- the world after the command, its dead letters and the expunging that follows
 abbrev pub finished : ℕ → World → Outcome → World
 finished t w (Shows reply) = w
 finished t w (Leaves made letters reply) = expunge_world t (forward t letters made)
@@ -55,13 +55,13 @@ step w e =
 abbrev pub reply : World → ℕ → Command → Reply
 reply w at c = let t = moment w at in reply_in (outcome (settled t w) t (as_read c))
 
--- the command where it changes the settled world, else a Tick where settling changed something, else nothing
+-- the command if it changes the settled world, else a Tick if settling changed something, else nothing
 abbrev pub entry_at : World → ℕ → Command → Option Entry
 entry_at w t c =
     if same_world (settled t w) (carried_out w t c) then
     if same_world w (settled t w) then None else Some (record { now = t; command = Tick })
     else Some (record { now = t; command = as_read c })
 
--- what is recorded of a call at this moment
+-- what is recorded for a call at this moment
 abbrev pub entry_of : World → ℕ → Command → Option Entry
 entry_of w at c = if is_full w then None else entry_at w (moment w at) c

@@ -13,18 +13,18 @@ use Rattle.ps_model.specs.declared.world.SubRow.{SubRow}
 use Rattle.ps_model.specs.declared.world.MessageRow.{MessageRow}
 use Rattle.ps_model.specs.declared.world.MarkRow.{MarkRow}
 use Rattle.ps_model.specs.Retention.{is_within, lapsed}
-use Rattle.ps_model.specs.Filters.{meets}
+use Rattle.ps_filter.specs.Filters.{meets}
 use Rattle.ps_model.specs.Showing.{sub_shown}
 use Rattle.ps_config.specs.Masks.{has_bit, masked_sub}
 use Rattle.ps_model.specs.Worlds.{topic_named, sub_named, put_sub, remark_at}
 use Rattle.ps_model.specs.Outcomes.{Outcome, Shows, answers, refuses}
 
--- the kept messages in the topic's window that meet the filter, as acknowledged
+-- the kept messages in the topic's window that match the filter, as acknowledged
 abbrev pub retained_rows : World → ℕ → SubRow → Option ℕ → List MarkRow
 retained_rows w t sub window = map (λ (r : MessageRow). record { sub = sub.number; message = r.number; mark = Done Acknowledged })
     (filter (λ (r : MessageRow). nat_eq r.topic sub.topic && (r.kept && (is_within t r.publish window && meets sub.config.filter r.message))) w.messages)
 
--- the dead-letter topic that a configuration names and that isn't there
+-- the dead-letter topic that a configuration names and that doesn't exist
 abbrev pub missing_of : World → Option DeadLetterPolicy → Option (List ℕ)
 missing_of w None = None
 missing_of w (Some policy) = if is_some (topic_named w policy.topic) then None else Some policy.topic
@@ -75,7 +75,7 @@ delete_sub_at w name (Some row) = answers (record w {
 abbrev pub delete_sub : World → List ℕ → Outcome
 delete_sub w name = delete_sub_at w name (sub_named w name)
 
--- every mark goes, and nothing enters any more
+-- every mark is gone, and nothing enters any more
 abbrev pub detach_at : World → List ℕ → Option SubRow → Outcome
 detach_at w name None = refuses w (NotFound name)
 detach_at w name (Some row) =

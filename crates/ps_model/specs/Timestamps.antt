@@ -22,7 +22,7 @@ next_day d =
     else if nat_lt d.month 12 then record d { month = d.month + 1; day = 1 }
     else record { year = d.year + 1; month = 1; day = 1 }
 
--- the date so many days after 1 January 1970
+-- the date this many days after 1 January 1970
 abbrev pub date_of : ℕ → Date
 date_of zero = record { year = 1970; month = 1; day = 1 }
 date_of (suc days) = next_day (date_of days)
@@ -48,6 +48,6 @@ date_text d = four_digits d.year ++ codes "-" ++ two_digits d.month ++ codes "-"
 abbrev pub time_text : ℕ → List ℕ
 time_text ms = two_digits (ms / 3600000 % 24) ++ codes ":" ++ two_digits (ms / 60000 % 60) ++ codes ":" ++ two_digits (ms / 1000 % 60) ++ codes "." ++ three_digits (ms % 1000)
 
--- a moment in milliseconds since 1970; one past the year 9999 is told as the last one of it
+-- a moment in milliseconds since 1970; one after the year 9999 is printed as the last one of that year
 abbrev pub timestamp : ℕ → List ℕ
 timestamp ms = let at = min ms last_moment in date_text (date_of (at / 86400000)) ++ codes "T" ++ time_text at ++ codes "Z"

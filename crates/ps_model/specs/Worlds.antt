@@ -1,4 +1,4 @@
--- Questions to a world, and a world with one part changed.
+-- Look-ups in a world, and a world with one part changed.
 use Rattle.std.specs.Prelude.{ℕ, false, nat_eq, nat_lt, List, [], ◌++◌, Option, Some, None, map, filter, find, option_and_then, unwrap_or, if◌then◌else◌}
 use Rattle.std.specs.Str.{bytes_eq}
 use Rattle.ps_model.specs.declared.mark.Item.{Item}
@@ -17,7 +17,7 @@ use Rattle.ps_model.specs.declared.hold.Holds.{Holds}
 abbrev pub topic_named : World → List ℕ → Option TopicRow
 topic_named w name = find (λ (r : TopicRow). bytes_eq r.name name) w.topics
 
--- none where it was deleted
+-- none if it was deleted
 abbrev pub topic_numbered : World → ℕ → Option TopicRow
 topic_numbered w number = find (λ (r : TopicRow). nat_eq r.number number) w.topics
 
@@ -27,7 +27,7 @@ sub_named w name = find (λ (r : SubRow). bytes_eq r.name name) w.subs
 abbrev pub snap_named : World → List ℕ → Option SnapRow
 snap_named w name = find (λ (r : SnapRow). bytes_eq r.name name) w.snaps
 
--- In place of a message that isn't there, so that every look-up has an answer. A sound world never needs it.
+-- This stands in for a message that doesn't exist, so that every look-up has an answer. A sound world never needs it.
 abbrev pub no_message : ℕ → MessageRow
 no_message number = record { number = number; topic = 0; publish = 0; message = record { payload = []; attributes = []; key = [] }; kept = false }
 
@@ -66,28 +66,28 @@ new_mark rule w r (Some sub) = rule sub (slots_of w sub.number) (slot_of w.messa
 abbrev pub remark_row : MarkRow → Mark → MarkRow
 remark_row r mark = record { sub = r.sub; message = r.message; mark = mark }
 
--- the world after a rule went over every mark
+-- the world after a rule is applied to every mark
 abbrev pub remark_all : (SubRow → List Slot → Slot → Mark) → World → World
 remark_all rule w = record w { marks = map (λ (r : MarkRow). remark_row r (new_mark rule w r (sub_numbered w r.sub))) w.marks }
 
--- the world after a rule went over the marks of one subscription
+-- the world after a rule is applied to the marks of one subscription
 abbrev pub remark_at : ℕ → (Slot → Mark) → World → World
 remark_at number rule w = record w { marks = map (λ (r : MarkRow). if nat_eq r.sub number then remark_row r (rule (slot_of w.messages r)) else r) w.marks }
 
--- the world where one subscription has these slots
+-- the world in which one subscription has these slots
 abbrev pub with_slots_at : ℕ → List Slot → World → World
 with_slots_at number slots w = record w {
   marks = filter (λ (r : MarkRow). nat_lt r.sub number) w.marks ++ (map (row_of number) slots ++ filter (λ (r : MarkRow). nat_lt number r.sub) w.marks);
 }
 
--- the world where this row stands in place of the one of its number
+-- the world with this row in place of the row with its number
 abbrev pub put_sub : SubRow → World → World
 put_sub row w = record w { subs = map (λ (r : SubRow). if nat_eq r.number row.number then row else r) w.subs }
 
 abbrev pub put_topic : TopicRow → World → World
 put_topic row w = record w { topics = map (λ (r : TopicRow). if nat_eq r.number row.number then row else r) w.topics }
 
--- the retention window of a topic, where it exists and has one
+-- the retention window of a topic, if the topic exists and has one
 abbrev pub window_of : World → ℕ → Option ℕ
 window_of w topic = option_and_then (λ (r : TopicRow). r.config.retention) (topic_numbered w topic)
 

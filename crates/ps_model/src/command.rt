@@ -7,10 +7,10 @@ use ps_message::Message;
 use ps_names::{ProjectName, SnapName, SubName, TopicName};
 use std::alloc::Global;
 
-/// What a caller asks.
+/// What a caller asks for.
 #[derive(Drop)]
 pub enum Command {
-    /// Nothing but what is due at the moment.
+    /// Does nothing but what is due at the moment.
     Tick,
     CreateTopic {
         topic: TopicName,
@@ -63,8 +63,8 @@ pub enum Command {
         project: ProjectName,
         paging: Paging,
     },
-    /// At most `max` messages, ending before a message where those before it have `budget` bytes. The leases
-    /// live so many seconds, or as long as the subscription says.
+    /// Delivers at most `max` messages, and stops before a message if those before it have `budget` bytes. The leases
+    /// last this many seconds, or as long as the subscription says.
     Pull {
         subscription: SubName,
         max: u32,
@@ -75,7 +75,7 @@ pub enum Command {
         subscription: SubName,
         ids: List<AckId>,
     },
-    /// Each id with its seconds from now. 0 gives the lease up.
+    /// Each id with its seconds from now. 0 gives up the lease.
     ModifyAckDeadline {
         subscription: SubName,
         items: List<(AckId, u32)>,
@@ -112,12 +112,12 @@ pub enum Command {
     },
 }
 
-/// Which part of a list is asked for.
+/// The part of a list that is asked for.
 #[derive(Clone, Drop)]
 pub struct Paging {
-    /// How many at most. 0 is 100, and more than 1,000 is 1,000.
+    /// The maximum number of items. 0 counts as 100, and more than 1,000 as 1,000.
     pub size: u32,
-    /// The last name of the page before. Empty begins with the first name.
+    /// The last name of the page before. An empty text begins with the first name.
     pub after: Text,
 }
 
@@ -166,7 +166,7 @@ impl Duplicate for Command {
     }
 }
 
-/// A copy of a command on topics.
+/// Copies a command on topics.
 fn copy_topic_command(alloc: Global, command: &Command) -> Result<Command, OutOfMemory>
     requires { is_topic_command command.now ≡ true }
     ensures { IfOk result (λ made. made ≡ command.now) }
@@ -199,7 +199,7 @@ fn copy_topic_command(alloc: Global, command: &Command) -> Result<Command, OutOf
     }
 }
 
-/// A copy of a command on subscriptions.
+/// Copies a command on subscriptions.
 fn copy_subscription_command(alloc: Global, command: &Command) -> Result<Command, OutOfMemory>
     requires { is_subscription_command command.now ≡ true }
     ensures { IfOk result (λ made. made ≡ command.now) }
@@ -236,7 +236,7 @@ fn copy_subscription_command(alloc: Global, command: &Command) -> Result<Command
     }
 }
 
-/// A copy of a command on messages of a subscription.
+/// Copies a command on messages of a subscription.
 fn copy_delivery_command(alloc: Global, command: &Command) -> Result<Command, OutOfMemory>
     requires { is_delivery_command command.now ≡ true }
     ensures { IfOk result (λ made. made ≡ command.now) }
@@ -279,7 +279,7 @@ fn copy_delivery_command(alloc: Global, command: &Command) -> Result<Command, Ou
     }
 }
 
-/// A copy of a command on snapshots.
+/// Copies a command on snapshots.
 fn copy_snapshot_command(alloc: Global, command: &Command) -> Result<Command, OutOfMemory>
     requires { is_snapshot_command command.now ≡ true }
     ensures { IfOk result (λ made. made ≡ command.now) }
@@ -308,7 +308,7 @@ fn copy_snapshot_command(alloc: Global, command: &Command) -> Result<Command, Ou
     }
 }
 
-/// A copy of a list.
+/// Copies a command that lists resources.
 fn copy_list_command(alloc: Global, command: &Command) -> Result<Command, OutOfMemory>
     requires { is_list_command command.now ≡ true }
     ensures { IfOk result (λ made. made ≡ command.now) }

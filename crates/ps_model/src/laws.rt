@@ -4,23 +4,23 @@ ghost use Rattle.ps_model.specs.Forms.{name_at, NameFits, text_at, TextFits, lab
 ghost use Rattle.ps_model.specs.FormLaws.{IsForm};
 ghost use Rattle.ps_model.specs.Laws.{DeliverableInTurn, EmptyWhereNothingIs, StartsSound};
 
-/// A message is deliverable where it is ready, and each earlier unacknowledged message of its key is leased
-/// or deliverable.
+/// A message is deliverable if and only if it is ready and each earlier unacknowledged message of its key is leased or
+/// deliverable.
 pub fn law_in_turn()
-    ensures { DeliverableInTurn }
+    ensures deliverable_in_turn { DeliverableInTurn }
 {}
 
 /// The empty world is sound.
 pub fn law_starts_sound()
-    ensures { StartsSound }
+    ensures starts_sound { StartsSound }
 {}
 
-/// A pull that may take a message and isn't refused is empty exactly where nothing is deliverable.
+/// A pull that may take a message and isn't refused is empty if and only if nothing is deliverable.
 pub fn law_5()
-    ensures { EmptyWhereNothingIs }
+    ensures empty_where_nothing_is { EmptyWhereNothingIs }
 {}
 
-/// Each value has one spelling: what was written is read again whatever follows it, and nothing else is read.
+/// Each value has one encoding: what was written is read back, whatever follows it, and nothing else is read.
 pub fn law_forms()
     ensures text { IsForm bytes_field text_at TextFits }
     ensures topic_name { IsForm bytes_field (name_at is_topic_name) (NameFits is_topic_name) }

@@ -1,29 +1,29 @@
 use ps_base::Text;
 
-/// Where a message stands on a subscription.
+/// The state of a message on a subscription.
 #[derive(Clone, Copy, PartialEq, Eq)]
 pub enum Mark {
-    /// Waits to be handed out, not before `until`. `last` is the lease under which it was out last.
+    /// It is in the backlog, for delivery not before `until`. `last` is its last lease, if one is kept.
     Backlog {
         failures: u32,
         until: u64,
         last: Option<u64>,
     },
-    /// Is out under a lease that ends at `deadline`.
+    /// It is leased until `deadline`.
     Leased {
         failures: u32,
         lease: u64,
         deadline: u64,
     },
-    /// Was acknowledged before an earlier message of its key.
+    /// It was acknowledged before an earlier message of its key.
     Ahead {
         failures: u32,
     },
-    /// Is dealt with, and still held.
+    /// It was dealt with, and is still held.
     Done {
         cause: DoneCause,
     },
-    /// Is dealt with, or was held by nothing any more.
+    /// It was dealt with, or nothing held it any more.
     Gone {
         cause: GoneCause,
     },
@@ -50,13 +50,13 @@ pub struct Item {
     pub number: u64,
     /// When it was published, in milliseconds since 1970.
     pub publish: u64,
-    /// Its ordering key. Empty is none.
+    /// Its ordering key, or an empty text if it has none.
     pub key: Text,
-    /// Its bytes, as the budget of a pull counts them.
+    /// Its size in bytes, as the budget of a pull counts them.
     pub size: u64,
 }
 
-/// A message of a subscription and where it stands.
+/// A message of a subscription, with its mark.
 #[derive(Drop)]
 pub struct Slot {
     pub item: Item,
@@ -70,7 +70,7 @@ pub struct Ticket {
     pub lease: u64,
 }
 
-/// A message that a pull hands out.
+/// A message that a pull delivers.
 #[derive(Clone, Copy, PartialEq, Eq)]
 pub struct Handed {
     pub number: u64,

@@ -11,7 +11,7 @@ pub enum Reply {
     Snapshot(SnapShown),
     Page {
         items: PageItems,
-        /// The token of the next page, where more remain.
+        /// The token of the next page, if more remain.
         next: Option<Text>,
     },
     /// The number of the first message, and how many there are.
@@ -36,41 +36,41 @@ pub enum Reply {
     Refused(Refusal),
 }
 
-/// A topic as it is shown.
+/// A topic as replies show it.
 #[derive(Drop)]
 pub struct TopicShown {
     pub name: Text,
     pub config: TopicConfig,
 }
 
-/// A subscription as it is shown.
+/// A subscription as replies show it.
 #[derive(Drop)]
 pub struct SubShown {
     pub name: Text,
-    /// None where the topic was deleted.
+    /// `None` if the topic was deleted.
     pub topic: Option<Text>,
     pub config: SubConfig,
     pub detached: bool,
-    /// The retention of the topic in milliseconds, where there is the topic and it has one.
+    /// The retention of the topic in milliseconds, if the topic exists and has one.
     pub topic_retention: Option<u64>,
 }
 
-/// A snapshot as it is shown.
+/// A snapshot as replies show it.
 #[derive(Drop)]
 pub struct SnapShown {
     pub name: Text,
-    /// None where the topic was deleted.
+    /// `None` if the topic was deleted.
     pub topic: Option<Text>,
     pub labels: Labels,
-    /// When it ends, in milliseconds since 1970.
+    /// When it expires, in milliseconds since 1970.
     pub expiry: u64,
 }
 
-/// A message that was handed out.
+/// A message that was delivered.
 #[derive(Drop)]
 pub struct ReceivedMessage {
     pub id: AckId,
-    /// Which delivery this is, from 1, where the subscription has a dead-letter policy.
+    /// The number of this delivery, from 1, if the subscription has a dead-letter policy.
     pub attempt: Option<u64>,
     /// When it was published, in milliseconds since 1970.
     pub publish: u64,

@@ -1,14 +1,14 @@
-/// What the world counts.
+/// The counts of a world.
 #[derive(Clone, Copy, PartialEq, Eq)]
 pub struct Stat {
-    /// How many entries were recorded.
+    /// The number of recorded entries.
     pub entries: u64,
-    /// The moment of the last one, in milliseconds since 1970.
+    /// The moment of the last entry, in milliseconds since 1970.
     pub now: u64,
     pub topics: u64,
     pub subscriptions: u64,
     pub snapshots: u64,
-    /// The messages that something still wants.
+    /// The messages that something still needs.
     pub messages: u64,
     /// The marks of each standing that isn't gone.
     pub backlog: u64,

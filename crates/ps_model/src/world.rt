@@ -9,7 +9,7 @@ use ps_names::{SnapName, SubName, TopicName};
 pub struct World {
     /// The moment of the last entry, in milliseconds since 1970.
     pub now: u64,
-    /// How many entries were recorded.
+    /// The number of recorded entries.
     pub count: u64,
     pub next_topic: u64,
     pub next_sub: u64,
@@ -23,7 +23,7 @@ pub struct World {
     pub marks: List<MarkRow>,
 }
 
-/// A topic that there is. Its number is never given again, its name may be.
+/// A topic that exists. Its number is never used again; its name may be.
 #[derive(Drop)]
 pub struct TopicRow {
     pub number: u64,
@@ -31,7 +31,7 @@ pub struct TopicRow {
     pub config: TopicConfig,
 }
 
-/// A subscription that there is.
+/// A subscription that exists.
 #[derive(Drop)]
 pub struct SubRow {
     pub number: u64,
@@ -39,13 +39,13 @@ pub struct SubRow {
     /// The number of its topic, which may have been deleted.
     pub topic: u64,
     pub config: SubConfig,
-    /// Whether nothing enters any more, and all that had entered is gone.
+    /// Whether nothing enters any more, and everything that had entered is gone.
     pub detached: bool,
     /// The number of the next lease, from 1.
     pub next_lease: u64,
 }
 
-/// A snapshot that there is.
+/// A snapshot that exists.
 #[derive(Drop)]
 pub struct SnapRow {
     pub number: u64,
@@ -55,9 +55,9 @@ pub struct SnapRow {
     pub labels: Labels,
     /// The messages up to `bound` that it holds, by number.
     pub listed: List<u64>,
-    /// All later messages of the topic are held too.
+    /// It also holds all later messages of the topic.
     pub bound: u64,
-    /// When it ends, in milliseconds since 1970.
+    /// When it expires, in milliseconds since 1970.
     pub expiry: u64,
 }
 
@@ -70,11 +70,11 @@ pub struct MessageRow {
     /// When it was published, in milliseconds since 1970.
     pub publish: u64,
     pub message: Message,
-    /// Whether something still wants it. Once false, it stays so.
+    /// Whether something still needs it. Once false, it stays false.
     pub kept: bool,
 }
 
-/// Where a message stands on a subscription, both by number.
+/// The mark of a message on a subscription, both by number.
 #[derive(Clone, Copy, PartialEq, Eq)]
 pub struct MarkRow {
     pub sub: u64,

@@ -6,7 +6,7 @@ use ps_base::{List, OutOfMemory};
 use ps_codec::{FieldReader, FieldWriter};
 use std::alloc::Global;
 
-/// The most items that a count of four bytes can tell.
+/// The greatest number of items that a count of four bytes can hold.
 const MOST_ITEMS: usize = 0xffff_ffff;
 
 impl<A: Form, B: Form> Form for (A, B) {
@@ -92,7 +92,7 @@ impl<A: Form> Form for List<A> {
     }
 }
 
-/// Appends how many items there are, and each. 2^32 items or more are answered as want of memory.
+/// Appends the number of items, then each item. Fails if out of memory, or if there are 2^32 items or more.
 pub fn write_list<A: Form>(items: &[A], writer: &mut FieldWriter) -> Result<(), OutOfMemory>
     ensures ok { OnOk result (writer.new ≡ writer.old ++ list_form A.form items.now) }
     ensures fits { OnOk result (ListFits A.fits items.now) }
@@ -114,7 +114,7 @@ fn write_each<A: Form>(items: &[A], writer: &mut FieldWriter) -> Result<(), OutO
     Ok(())
 }
 
-/// So many items from the front. Memory is taken item by item, as they come.
+/// Reads this many items from the start. Allocates item by item, as they come.
 fn read_each<A: Form>(
     alloc: Global,
     count: u32,

@@ -10,10 +10,10 @@ use std::alloc::Global;
 /// How long leases and messages live, and the labels.
 type Lives = (u32, (bool, (u64, Labels)));
 
-/// Which messages enter and in which order they go out, and when the subscription ends.
+/// Which messages enter and in which order they are delivered, and when the subscription expires.
 type Entering = (bool, (Option<u64>, Text));
 
-/// What becomes of a message whose lease ended.
+/// What happens to a message whose lease ended.
 type Failing = (Option<DeadLetterPolicy>, (Option<RetryPolicy>, bool));
 
 impl Form for SubConfig {

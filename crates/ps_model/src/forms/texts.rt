@@ -7,7 +7,7 @@ use ps_base::{Octets, OutOfMemory, Text};
 use ps_codec::{FieldReader, FieldWriter};
 use std::alloc::Global;
 
-/// The most bytes that a count of four bytes can tell.
+/// The greatest number of bytes that a count of four bytes can hold.
 const MOST_BYTES: usize = 0xffff_ffff;
 
 impl Form for Octets {
@@ -57,7 +57,7 @@ impl Form for Text {
     }
 }
 
-/// Appends how many bytes there are, and the bytes. 2^32 bytes or more are answered as want of memory.
+/// Appends the number of bytes, then the bytes. Fails if out of memory, or if there are 2^32 bytes or more.
 pub fn write_bytes(bytes: &[u8], writer: &mut FieldWriter) -> Result<(), OutOfMemory>
     ensures ok { OnOk result (writer.new ≡ writer.old ++ bytes_field bytes.now) }
     ensures fits { OnOk result (IsShort bytes.now) }
@@ -68,7 +68,7 @@ pub fn write_bytes(bytes: &[u8], writer: &mut FieldWriter) -> Result<(), OutOfMe
     writer.bytes(bytes)
 }
 
-/// Appends how many bytes the text has, and the text. 2^32 bytes or more are answered as want of memory.
+/// Appends the length in bytes, then the text. Fails if out of memory, or if it has 2^32 bytes or more.
 pub fn write_text(text: &str, writer: &mut FieldWriter) -> Result<(), OutOfMemory>
     ensures ok { OnOk result (writer.new ≡ writer.old ++ bytes_field text.now) }
     ensures fits { OnOk result (TextFits text.now) }
@@ -76,7 +76,7 @@ pub fn write_text(text: &str, writer: &mut FieldWriter) -> Result<(), OutOfMemor
     write_bytes(text.as_bytes(), writer)
 }
 
-/// The text at the front. None exactly where there are no such bytes, or they aren't UTF-8.
+/// Reads the text at the start. Returns `None` if and only if there are no such bytes or they aren't UTF-8.
 pub fn read_text<'a>(reader: &mut FieldReader<'a>) -> Option<&'a str>
     ensures { MatchOption result (text_at reader.old ≡ None) (λ text. text_at reader.old ≡ Some (text.now, reader.new)) }
 {

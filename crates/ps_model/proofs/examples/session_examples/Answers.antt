@@ -1,9 +1,0 @@
-use Rattle.std.proofs.Common.{refl}
-use Rattle.ps_model.proofs.examples.session_examples.Goals as goal
-
-pub returns : goal.returns
-returns c = record {
-  every_answer = refl;
-  every_entry = refl;
-  counts = refl;
-}
