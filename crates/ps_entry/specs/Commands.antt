@@ -1,4 +1,4 @@
--- The bytes of each command that is recorded: a tag, and the command's fields one behind the other.
+-- The bytes of each command that is recorded: a tag, then the command's fields one after another.
 use Rattle.std.specs.Prelude.{◌≡◌, ℕ, nat_eq, Bool, true, false, List, [], ◌∷◌, ◌++◌, Option, Some, None, if◌then◌else◌}
 use Rattle.ps_base.specs.declared.ack_id.AckId.{AckId}
 use Rattle.ps_message.specs.declared.message.Message.{Message}
@@ -20,7 +20,7 @@ has_spelling (Pull subscription max budget seconds) = true
 has_spelling (Acknowledge subscription ids) = true
 has_spelling _ = false
 
--- the fields behind the tag
+-- the fields after the tag
 abbrev pub create_topic_form : List ℕ → TopicConfig → List ℕ
 create_topic_form topic config = bytes_field topic ++ topic_config_form config
 
@@ -36,7 +36,7 @@ pull_form subscription max budget seconds = bytes_field subscription ++ (u32_fie
 abbrev pub acknowledge_form : List ℕ → List AckId → List ℕ
 acknowledge_form subscription ids = bytes_field subscription ++ list_form ack_id_form ids
 
--- the tag, and the fields
+-- the tag, then the fields
 abbrev pub command_form : Command → List ℕ
 command_form Tick = 0x01 ∷ []
 command_form (CreateTopic topic config) = 0x02 ∷ create_topic_form topic config
@@ -46,7 +46,7 @@ command_form (Pull subscription max budget seconds) = 0x0d ∷ pull_form subscri
 command_form (Acknowledge subscription ids) = 0x0e ∷ acknowledge_form subscription ids
 command_form _ = []
 
--- what reads the fields
+-- reads the fields
 abbrev pub create_topic_at : Reading Command
 create_topic_at = made_at (λ p. CreateTopic p.0 p.1) (pair_at (name_at is_topic_name) topic_config_at)
 
@@ -62,7 +62,7 @@ pull_at = made_at (λ p. Pull p.0 p.1.0 p.1.1.0 p.1.1.1) (pair_at (name_at is_su
 abbrev pub acknowledge_at : Reading Command
 acknowledge_at = made_at (λ p. Acknowledge p.0 p.1) (pair_at (name_at is_sub_name) (list_at ack_id_at))
 
--- what reads the fields behind this tag
+-- reads the fields after this tag
 abbrev pub fields_at : ℕ → Reading Command
 fields_at tag bytes =
     if nat_eq tag 0x01 then Some (Tick, bytes)
@@ -77,7 +77,7 @@ abbrev pub command_at : Reading Command
 command_at [] = None
 command_at (tag ∷ bytes) = fields_at tag bytes
 
--- the commands whose lengths and counts can be told
+-- the commands whose lengths and counts can be encoded
 abbrev pub CommandFits : Command → Type 0
 CommandFits Tick = Unit {0}
 CommandFits (CreateTopic topic config) = NameFits is_topic_name topic × TopicConfigFits config

@@ -16,21 +16,21 @@ abbrev pub entry_at : Reading Entry
 entry_at [] = None
 entry_at (format ∷ bytes) = if nat_eq format 0x01 then made_at entry_of (pair_at number64_at command_at) bytes else None
 
--- a value behind which nothing stands
+-- a value with nothing after it
 abbrev pub whole : {A : Type 0} → Option (A × List ℕ) → Option A
 whole None = None
 whole (Some (value, [])) = Some value
 whole (Some (value, x ∷ xs)) = None
 
--- the entry that a row spells
+-- the entry that a row encodes
 abbrev pub entry_in : List ℕ → Option Entry
 entry_in row = whole (entry_at row)
 
--- the entries whose lengths and counts can be told
+-- the entries whose lengths and counts can be encoded
 abbrev pub EntryFits : Entry → Type 0
 EntryFits e = IsBelow64 e.now × CommandFits e.command
 
--- an entry is read again from its bytes
+-- an entry is read back from its bytes
 abbrev pub ReadsBack : Type 0
 ReadsBack = (e : Entry) → EntryFits e → entry_in (entry_form e) ≡ Some e
 

@@ -1,4 +1,4 @@
-//! The bytes of a recorded entry: what was written is read again, and nothing else is read.
+//! The bytes of a recorded entry: what was written is read back, and nothing else is read.
 #![tactic(auto)]
 
 mod laws;
@@ -8,6 +8,3 @@ mod writing;
 pub use laws::law_entries;
 pub use reading::read;
 pub use writing::{is_recorded, write};
-
-#[cfg(test)]
-mod tests;

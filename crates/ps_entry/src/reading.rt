@@ -9,9 +9,9 @@ use ps_model::{Command, Entry, Form, SubConfig, TopicConfig};
 use ps_names::{SubName, TopicName};
 use std::alloc::Global;
 
-/// The entry that these bytes spell. None exactly where they spell none: a byte more or less, an unknown tag or
-/// format, a name outside its grammar, keys out of order. Only memory can be wanting, and never in proportion to
-/// a length that isn't there.
+/// The entry that these bytes encode, or `None` if and only if they encode none: a byte too many or too few, an unknown
+/// tag or format, a name outside its grammar, keys out of order. Fails only if out of memory, and never allocates in
+/// proportion to a length that isn't there.
 pub fn read(alloc: Global, bytes: &[u8]) -> Result<Option<Entry>, OutOfMemory>
     ensures { IfOk result (λ entry. entry ≡ entry_in bytes.now) }
 {

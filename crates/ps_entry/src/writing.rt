@@ -27,8 +27,8 @@ pub fn is_recorded(command: &Command) -> bool
     )
 }
 
-/// The bytes of an entry: the format, the moment, the command's tag and its fields. A length or a count of 2^32
-/// or more is answered as want of memory.
+/// The bytes of an entry: the format, the moment, the command's tag and its fields. Fails if out of memory, or if a
+/// length or a count is 2^32 or more.
 pub fn write(alloc: Global, entry: &Entry) -> Result<Octets, OutOfMemory>
     requires { has_spelling entry.now.command ≡ true }
     ensures bytes { IfOk result (λ row. row ≡ entry_form entry.entry.now) }

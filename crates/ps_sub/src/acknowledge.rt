@@ -72,7 +72,7 @@ fn mark_after(config: &SubConfig, tickets: &[Ticket], slots: &[Slot], slot: &Slo
     }
 }
 
-/// The marks after these tickets acknowledge together.
+/// The marks after these tickets are acknowledged together.
 pub fn marks_after(
     alloc: Global,
     config: &SubConfig,
@@ -100,7 +100,7 @@ fn is_among(tickets: &[Ticket], ticket: Ticket) -> bool
     tickets.iter().any(|seen| is_same(ticket, *seen))
 }
 
-/// Each ticket once, where it stands first.
+/// Each ticket once, at its first place.
 fn once(alloc: Global, tickets: &[Ticket]) -> Result<Vec<Ticket>, OutOfMemory>
     ensures { IfOk result (λ kept. kept.items ≡ once same_ticket tickets.now) }
 {
@@ -121,7 +121,7 @@ fn is_unordered(config: &SubConfig, tickets: &[Ticket], slots: &[Slot], ticket: 
     })
 }
 
-/// In exactly-once mode the tickets that name no living lease, each once.
+/// In exactly-once mode the tickets that don't name a living lease, each once.
 pub fn invalid(
     alloc: Global,
     config: &SubConfig,
@@ -141,7 +141,7 @@ pub fn invalid(
     Ok(List::from_vec(named))
 }
 
-/// In exactly-once mode the tickets of messages before their turn, each once.
+/// In exactly-once mode the tickets of messages whose turn hasn't come, each once.
 pub fn unordered(
     alloc: Global,
     config: &SubConfig,

@@ -6,8 +6,8 @@ use ps_base::{List, OutOfMemory};
 use ps_model::{Handed, Slot};
 use std::alloc::Global;
 
-/// The first deliverable messages, at most `max`, ending where the bytes before reach the budget. Each
-/// gets the next lease, from `lease` on.
+/// The first deliverable messages, at most `max`. They end before a message if the bytes chosen so far reach the
+/// budget. The leases are numbered from `lease`.
 pub fn choose(
     alloc: Global,
     now: u64,

@@ -24,8 +24,8 @@ fn one_more(failures: u32) -> u32
     failures.saturating_add(1)
 }
 
-/// The delay after so many failures, in milliseconds: the least, doubled with each failure after the first,
-/// up to the greatest.
+/// The delay after so many failures, in milliseconds. It doubles with each failure after the first, from the least up
+/// to the greatest.
 fn delay(retry: RetryPolicy, failures: u32) -> u64
     requires least { retry.least ≤ 600000 }
     requires most { retry.most ≤ 600000 }
@@ -137,7 +137,7 @@ fn mark_after(now: u64, forward: bool, config: &SubConfig, slots: &[Slot], slot:
     }
 }
 
-/// The marks after the leases that are over failed together.
+/// The marks after the leases that are over have failed together.
 pub fn marks_after(
     alloc: Global,
     now: u64,
@@ -172,7 +172,7 @@ fn dead_letter(now: u64, forward: bool, config: &SubConfig, slot: &Slot) -> Opti
     }
 }
 
-/// The messages whose lease is over and that failed as often as the dead-letter policy says.
+/// The messages whose lease is over and that have failed as often as the dead-letter policy allows.
 pub fn dead_letters(
     alloc: Global,
     now: u64,

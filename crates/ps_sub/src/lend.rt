@@ -7,7 +7,7 @@ ghost use Rattle.ps_sub.specs.Steady.{IsAscending};
 use crate::standing::failures_of;
 use ps_model::{Handed, Mark, Slot};
 
-/// Leases the message where it is the first of these, and gives those that are left.
+/// Leases the message if it is the first of these, and returns the rest of them.
 fn lend_first<'a>(deadline: u64, given: &'a [Handed], slot: &mut Slot) -> &'a [Handed]
     ensures after { slot.new ≡ remark slot.old (leased_as deadline slot.old.mark (first_lease given.now slot.old.item.number)) }
     ensures left { result.now ≡ left_after given.now slot.old.item.number }
@@ -25,7 +25,7 @@ fn lend_first<'a>(deadline: u64, given: &'a [Handed], slot: &mut Slot) -> &'a [H
     }
 }
 
-/// Each message that was handed out is leased until the deadline.
+/// Leases each message that was handed out until the deadline.
 pub fn lend(deadline: u64, given: &[Handed], slots: &mut [Slot])
     requires ascending { IsAscending slots.old }
     requires drawn { is_drawn given.now slots.old ≡ true }

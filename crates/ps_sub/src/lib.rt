@@ -1,4 +1,4 @@
-//! One subscription: its messages and where each stands.
+//! One subscription: its messages, each with its mark.
 #![tactic(auto)]
 
 mod acknowledge;
@@ -14,6 +14,3 @@ mod sub;
 
 pub use outcome::{AckOutcome, SubCounts};
 pub use sub::Sub;
-
-#[cfg(test)]
-mod tests;

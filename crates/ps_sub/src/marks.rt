@@ -12,7 +12,7 @@ pub fn is_same(a: Mark, b: Mark) -> bool
     a == b
 }
 
-/// Gives each slot the mark of its place, and tells whether one changed.
+/// Gives each slot the mark at its place, and returns whether one changed.
 pub fn write_marks(slots: &mut [Slot], marks: &[Mark]) -> bool
     requires { length slots.old ≡ length marks.now }
     ensures after { slots.new ≡ with_marks marks.now slots.old }
@@ -26,7 +26,7 @@ pub fn write_marks(slots: &mut [Slot], marks: &[Mark]) -> bool
     changed
 }
 
-/// Adds the slot behind all others, unless it is gone. Without memory nothing is added.
+/// Adds the slot behind all others, unless it is gone. After an error nothing was added.
 pub fn push_live(slots: &mut Vec<Slot>, slot: Slot) -> Result<(), OutOfMemory>
     ensures ok { OnOk result (slots.new.items ≡ slots.old.items ++ live (slot ∷ [])) }
     ensures err { OnErr result (slots.new.items ≡ slots.old.items) }

@@ -6,18 +6,18 @@ use ps_model::Ticket;
 pub struct AckOutcome {
     /// Whether a mark changed.
     pub changed: bool,
-    /// In exactly-once mode the tickets that name no living lease, each once.
+    /// In exactly-once mode the tickets that don't name a living lease, each once.
     pub invalid: List<Ticket>,
-    /// In exactly-once mode the tickets of messages before their turn, each once.
+    /// In exactly-once mode the tickets of messages whose turn hasn't come, each once.
     pub unordered: List<Ticket>,
 }
 
-/// How many messages of a subscription stand where.
+/// How many messages of a subscription have a mark of each kind.
 #[derive(Clone, Copy, Debug, PartialEq, Eq)]
 pub struct SubCounts {
     pub backlog: u64,
     pub leased: u64,
-    /// In their turn or before it.
+    /// In turn or ahead of it.
     pub acknowledged: u64,
     pub dead: u64,
 }

@@ -9,7 +9,7 @@ use ps_base::OutOfMemory;
 use ps_model::{DoneCause, GoneCause, Holds, Mark, Slot, SubConfig};
 use std::alloc::Global;
 
-/// Whether something still holds the message. Until retention can be set everything is held.
+/// Whether something still holds the message. As long as retention can't be set, everything is held.
 fn is_held(now: u64, config: &SubConfig, held: &Holds, slot: &Slot, mark: Mark) -> bool
     ensures { result ≡ holds now config.now held.now (record { item = slot.now.item; mark = mark }) }
 {
@@ -59,7 +59,8 @@ fn is_behind(now: u64, config: &SubConfig, held: &Holds, slots: &[Slot], slot: &
         })
 }
 
-/// The mark after what isn't held lapsed, what was ahead caught up, and what is done and isn't held lapsed.
+/// The mark after the three parts of expunging: what isn't held lapses, what was ahead catches up, and what is done
+/// and isn't held lapses.
 fn mark_after(now: u64, config: &SubConfig, held: &Holds, slots: &[Slot], slot: &Slot) -> Mark
     ensures { result ≡ expunged_mark now config.now held.now slots.now slot.now }
 {

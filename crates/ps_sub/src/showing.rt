@@ -55,14 +55,14 @@ fn deadline_of(slot: &Slot) -> Option<u64>
     }
 }
 
-/// The least deadline of the messages that are out.
+/// The first deadline of the messages that are out.
 pub fn first_deadline(slots: &[Slot]) -> Option<u64>
     ensures { result ≡ first_deadline slots.now }
 {
     slots.iter().filter_map(|slot| deadline_of(slot)).min()
 }
 
-/// One message more.
+/// Counts one more message.
 fn add(counts: SubCounts, mark: Mark) -> SubCounts
     requires { total_of counts < 2 ^ 63 }
     ensures backlog { result.backlog ≡ counts.backlog + one_if (is_backlog mark) }
@@ -86,7 +86,7 @@ fn add(counts: SubCounts, mark: Mark) -> SubCounts
     counts
 }
 
-/// How many of the messages stand where.
+/// How many of the messages have a mark of each kind.
 pub fn counts(slots: &[Slot]) -> SubCounts
     requires { IsLive slots.now }
     ensures backlog { result.backlog ≡ tally (λ s. is_backlog s.mark) slots.now }

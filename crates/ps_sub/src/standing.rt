@@ -46,14 +46,14 @@ pub fn is_due(now: u64, slot: &Slot) -> bool
     }
 }
 
-/// Whether the subscription hands the message out behind the earlier ones of its key.
+/// Whether the subscription hands out this message in the order of its key.
 pub fn has_order(ordering: bool, slot: &Slot) -> bool
     ensures { result ≡ (ordering && not (is_empty slot.now.item.key)) }
 {
     ordering && slot.item.key.len() != 0
 }
 
-/// Whether the one is an earlier message of the other's key, on an ordered subscription.
+/// Whether one is an earlier message of the other's key, on an ordered subscription.
 pub fn is_earlier(ordering: bool, earlier: &Slot, slot: &Slot) -> bool
     ensures { result ≡ is_earlier ordering earlier.now slot.now }
 {
@@ -81,7 +81,7 @@ fn is_waiting(now: u64, mark: Mark) -> bool
     }
 }
 
-/// Whether an earlier message of its key waits for its delay.
+/// Whether an earlier message of its key waits for a delay.
 #[tactic(auto, using(crate::proofs::OrderLemmas::any_earlier_none))]
 fn waits_before(now: u64, ordering: bool, slots: &[Slot], slot: &Slot) -> bool
     ensures { result ≡ any_earlier ordering (λ e. is_waiting now e.mark) slots.now slot.now }

@@ -25,12 +25,14 @@ use ps_model::{DeadLetter, Handed, Holds, Item, Mark, Slot, SubConfig, Ticket};
 use std::alloc::Global;
 use std::marker::Model;
 
-/// One subscription: the messages that it has, each with its mark, its settings, and the number of the next
-/// lease. Of a message it keeps the number, the moment, the key and the size, and never the payload. Marks
-/// that are gone aren't kept.
+/// One subscription: its messages, each with its mark, its settings, and the number of the next lease. It keeps the
+/// number, the moment, the key and the size of a message, and never the payload. It keeps no marks that are gone.
 ///
-/// Moments are in milliseconds since 1970. A call that answers `OutOfMemory`, the only error, leaves the
-/// subscription spent: nothing is known of it any more, and its owner drops it.
+/// Moments are in milliseconds since 1970. `OutOfMemory` is the only error. After it, drop the subscription: its state
+/// is unspecified.
+///
+/// The core doesn't call `expunge`, `unacknowledged`, `marks`, `configure`, `drop_all`, `is_due`, `next_lease` and `has`
+/// yet. They are for retention, snapshots, updates, detaching and seeking.
 #[derive(Drop)]
 pub struct Sub {
     slots: Vec<Slot>,
@@ -50,8 +52,8 @@ impl Model for Sub {
 }
 
 impl Sub {
-    /// A subscription with no message. One that is new begins with lease 1, one that is read again with the
-    /// number that it had (Pub/Sub documentation, "Create subscriptions").
+    /// A subscription without messages. A new one begins with lease 1, one that is read again with the number that it
+    /// had (Pub/Sub documentation, "Create subscriptions").
     pub fn new(alloc: Global, config: &SubConfig, next_lease: u64) -> Result<Sub, OutOfMemory>
         requires settings { new_sub_fault config.now ≡ None }
         requires leases { next_lease ≤ 2 ^ 61 }
@@ -64,8 +66,8 @@ impl Sub {
         })
     }
 
-    /// Adds a message behind all others, with this mark: a published one waits in the backlog (Pub/Sub
-    /// documentation, "Subscription overview"). One that is gone isn't kept.
+    /// Adds a message behind all others, with this mark. A published message waits in the backlog (Pub/Sub
+    /// documentation, "Subscription overview"). A message that is gone isn't kept.
     pub fn enter(&mut self, item: Item, mark: Mark) -> Result<(), OutOfMemory>
         requires number { AllByRecursion (λ s. s.item.number < item.number) self.old.slots }
         requires publish { AllByRecursion (λ s. s.item.publish ≤ item.publish) self.old.slots }
@@ -79,10 +81,10 @@ impl Sub {
         push_live(&mut self.slots, Slot { item, mark })
     }
 
-    /// Hands out the first messages that may go out at this moment, in order of number: at most `max`, ending
-    /// before a message where the bytes before it reach the budget. Each is leased for so many seconds, under
-    /// the next lease. On an ordered subscription a message waits for the earlier ones of its key (Pub/Sub
-    /// documentation, "Pull subscriptions", "Lease management" and "Order messages").
+    /// Hands out the first messages that are deliverable at this moment, in order of number. It hands out at most `max`,
+    /// and stops before a message if the bytes so far reach the budget. Each gets the next lease, for so many seconds.
+    /// On an ordered subscription a message waits for the earlier ones of its key (Pub/Sub documentation, "Pull
+    /// subscriptions", "Lease management" and "Order messages").
     pub fn pull(
         &mut self,
         alloc: Global,
@@ -114,10 +116,9 @@ impl Sub {
         Ok(given)
     }
 
-    /// Acknowledges the messages of these tickets together. Outside exactly-once mode the last lease of a
-    /// message counts also after its end, and other tickets have no effect; in it a living lease alone counts,
-    /// and the answer names each ticket that failed (Pub/Sub documentation, "Exactly-once delivery" and
-    /// "Order messages").
+    /// Acknowledges the messages of these tickets together. Outside exactly-once mode the last lease of a message counts
+    /// even after its end, and other tickets have no effect. In exactly-once mode only a living lease counts, and the
+    /// result names each ticket that failed (Pub/Sub documentation, "Exactly-once delivery" and "Order messages").
     pub fn acknowledge(
         &mut self,
         alloc: Global,
@@ -141,10 +142,10 @@ impl Sub {
         })
     }
 
-    /// Lets the leases that are over at this moment fail together: each message goes back into the backlog,
-    /// for as long as the retry policy says, or becomes a dead letter where it failed as often as the
-    /// dead-letter policy says and `forward` tells that the policy's topic exists. Gives the dead letters, in
-    /// order of number (Pub/Sub documentation, "Handle message failures" and "Dead-letter topics").
+    /// Lets the leases that are over at this moment fail together. A message goes back into the backlog, with the delay
+    /// of the retry policy. It becomes a dead letter if it has failed as often as the dead-letter policy allows and
+    /// `forward` says that the policy's topic exists. Returns the dead letters, in order of number (Pub/Sub
+    /// documentation, "Handle message failures" and "Dead-letter topics").
     pub fn settle(
         &mut self,
         alloc: Global,
@@ -165,9 +166,9 @@ impl Sub {
         Ok(List::from_vec(dead))
     }
 
-    /// Lets messages go that nothing holds any more. What was acknowledged before an earlier message of its
-    /// key is done where that one is acknowledged too (Pub/Sub documentation, "Replay and purge messages with
-    /// Seek" and "Topic message retention").
+    /// Removes messages that nothing holds any more. A message that was acknowledged ahead of an earlier one of its key
+    /// is done once that one is acknowledged too (Pub/Sub documentation, "Replay and purge messages with Seek" and
+    /// "Topic message retention").
     pub fn expunge(&mut self, alloc: Global, now: u64, holds: &Holds) -> Result<(), OutOfMemory>
         ensures { OnOk result (self.new ≡ record self.old { slots = live (expunge now self.old.config holds.now self.old.slots) }) }
     {
@@ -181,7 +182,7 @@ impl Sub {
         Ok(())
     }
 
-    /// The numbers of the messages that aren't acknowledged yet, ascending: what a snapshot holds (Pub/Sub
+    /// The numbers of the messages that aren't acknowledged yet, ascending. A snapshot holds these (Pub/Sub
     /// documentation, "Replay and purge messages with Seek").
     pub fn unacknowledged(&self, alloc: Global) -> Result<List<u64>, OutOfMemory>
         ensures { IfOk result (λ numbers. numbers ≡ unacknowledged self.now.slots) }
@@ -198,8 +199,7 @@ impl Sub {
         Ok(List::from_vec(shown))
     }
 
-    /// Takes other settings (API reference, UpdateSubscription). Whether the subscription is ordered can't
-    /// change.
+    /// Changes the settings, except whether the subscription is ordered (API reference, UpdateSubscription).
     pub fn configure(&mut self, alloc: Global, config: &SubConfig) -> Result<(), OutOfMemory>
         requires settings { new_sub_fault config.now ≡ None }
         requires ordering { config.now.ordering ≡ self.old.config.ordering }
@@ -209,7 +209,7 @@ impl Sub {
         Ok(())
     }
 
-    /// Drops all messages, and tells whether there was one (API reference, DetachSubscription).
+    /// Drops all messages, and returns whether there was one (API reference, DetachSubscription).
     pub fn drop_all(&mut self) -> bool
         ensures after { self.new ≡ record self.old { slots = [] } }
         ensures dropped { IsTrue result ↔ (self.old.slots ≢ []) }
@@ -219,8 +219,8 @@ impl Sub {
         dropped
     }
 
-    /// Whether the moment alone changes a mark: a lease is over, or nothing holds a message any more, or one
-    /// that was acknowledged early has caught up.
+    /// Whether the moment alone changes a mark: a lease is over, nothing holds a message any more, or a message that was
+    /// acknowledged ahead of its turn has caught up.
     pub fn is_due(&self, now: u64, holds: &Holds) -> bool
         ensures rest { result ≡ false → (forward : Bool) → settled now forward self.now.config holds.now self.now.slots ≡ self.now.slots }
         ensures due { result ≡ true → (forward : Bool) → settled now forward self.now.config holds.now self.now.slots ≢ self.now.slots }
@@ -228,7 +228,7 @@ impl Sub {
         retention::any_moved(now, &self.config, holds, self.slots.as_slice())
     }
 
-    /// When the first lease ends, or ended where it hasn't failed yet. None where no message is out.
+    /// When the first lease ends, or ended if it hasn't failed yet. None if no message is out.
     pub fn first_deadline(&self) -> Option<u64>
         ensures value { result ≡ first_deadline self.now.slots }
         ensures due { (t : ℕ) → list_any (is_due t) self.now.slots ≡ option_map_or (λ deadline. nat_le deadline t) result false }
@@ -250,7 +250,7 @@ impl Sub {
         self.slots.iter().any(|slot| slot.item.number == number)
     }
 
-    /// How many messages wait, are out, are acknowledged (in their turn or before it) and are dead letters.
+    /// How many messages wait, are out, are acknowledged (in turn or ahead of it) and are dead letters.
     pub fn counts(&self) -> SubCounts
         ensures backlog { result.backlog ≡ tally (λ s. is_backlog s.mark) self.now.slots }
         ensures leased { result.leased ≡ tally (λ s. is_leased s.mark) self.now.slots }
