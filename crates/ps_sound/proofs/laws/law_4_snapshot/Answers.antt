@@ -1,5 +1,5 @@
-use Rattle.ps_sound.proofs.SoughtLaws.{sought_to_snapshot}
+use Rattle.ps_sound.proofs.histories.SoughtLaws.{sought_to_snapshot}
 use Rattle.ps_sound.proofs.laws.law_4_snapshot.Goals as goal
 
 pub returns : goal.returns
-returns c = sought_to_snapshot
+returns c = record { sought_to_snapshot = sought_to_snapshot }

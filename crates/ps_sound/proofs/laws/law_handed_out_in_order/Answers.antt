@@ -1,5 +1,5 @@
-use Rattle.ps_sound.proofs.LawProofs.{handed_out_in_order}
+use Rattle.ps_sound.proofs.histories.LawProofs.{handed_out_in_order}
 use Rattle.ps_sound.proofs.laws.law_handed_out_in_order.Goals as goal
 
 pub returns : goal.returns
-returns c = handed_out_in_order
+returns c = record { handed_out_in_order = handed_out_in_order }

@@ -1,5 +1,5 @@
-use Rattle.ps_sound.proofs.Stepping.{sound_after_histories}
+use Rattle.ps_sound.proofs.phases.Stepping.{sound_after_histories}
 use Rattle.ps_sound.proofs.laws.law_sound_after_histories.Goals as goal
 
 pub returns : goal.returns
-returns c = sound_after_histories
+returns c = record { sound_after_histories = sound_after_histories }

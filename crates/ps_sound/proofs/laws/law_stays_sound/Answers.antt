@@ -1,5 +1,5 @@
-use Rattle.ps_sound.proofs.Stepping.{stays_sound}
+use Rattle.ps_sound.proofs.phases.Stepping.{stays_sound}
 use Rattle.ps_sound.proofs.laws.law_stays_sound.Goals as goal
 
 pub returns : goal.returns
-returns c = stays_sound
+returns c = record { stays_sound = stays_sound }

@@ -1,0 +1,16 @@
+pub mod Publishing
+pub mod TopicChanges
+pub mod SubChanges
+pub mod SubRows
+pub mod Acknowledged
+pub mod Modified
+pub mod SoughtTime
+pub mod Lending
+pub mod Choosing
+pub mod Pulled
+pub mod SnapChanges
+pub mod Replayed
+pub mod Carrying
+pub mod Outcomes
+pub mod Stamped
+pub mod Refused

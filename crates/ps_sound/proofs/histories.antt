@@ -1,0 +1,13 @@
+pub mod Sought
+pub mod SoughtLaws
+pub mod Pairs
+pub mod PairSteps
+pub mod Dealt
+pub mod ForGood
+pub mod SubSteps
+pub mod HandedOnce
+pub mod GivenUp
+pub mod HandedLaw
+pub mod HandedFirst
+pub mod Recording
+pub mod LawProofs

@@ -1,0 +1,10 @@
+pub mod LettingGo
+pub mod Ending
+pub mod Letters
+pub mod Adding
+pub mod CatchingUp
+pub mod Expunging
+pub mod Settled
+pub mod Stepping
+pub mod Resting
+pub mod AllHeld

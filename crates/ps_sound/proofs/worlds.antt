@@ -1,0 +1,11 @@
+pub mod Lists
+pub mod Counts
+pub mod Earlier
+pub mod Underway
+pub mod Marks
+pub mod Entering
+pub mod Settings
+pub mod Marked
+pub mod Slotted
+pub mod Resubbed
+pub mod Parts
