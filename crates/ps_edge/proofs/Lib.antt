@@ -1,2 +1,2 @@
-pub mod SlotLemmas
+pub mod PathLogLemmas
 pub mod Texts

@@ -15,7 +15,7 @@ pub record HasReadCause (before now : ℕ) (got : Got) : Type 0 where
   pub later : before ≤ now
   pub failed : got ≡ Failed → Rose before now
 
--- the first bytes of a piece were added, so many
+-- the first n bytes of a piece were added
 abbrev pub Adds : Option (List ℕ) → Option (List ℕ) → List ℕ → ℕ → Type 0
 Adds was now piece n = now ≡ option_map (λ held. held ++ take n piece) was
 

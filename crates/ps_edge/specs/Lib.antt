@@ -1,4 +1,4 @@
 pub mod Edge
 pub mod Files
 pub mod Memory
-pub mod Slots
+pub mod PathLogs

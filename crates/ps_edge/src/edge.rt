@@ -1,7 +1,7 @@
 ghost use Rattle.std.specs.Prelude.{◌≡◌, ◌<◌, ◌≤◌, ◌++◌, ℕ, List, length, take, Option, option_map, MatchResult, IfOk, OnOk};
 ghost use Rattle.ps_edge.specs.Edge.{Takes, HasReadCause, HasWriteCause, Adds};
 
-/// What a read gives: so many bytes, the end, or a fault.
+/// What a read gives: a number of bytes, the end, or a fault.
 #[derive(Clone, Copy, PartialEq, Eq)]
 pub enum Got {
     Bytes(usize),
@@ -13,9 +13,9 @@ pub enum Got {
 #[derive(Clone, Copy, PartialEq, Eq)]
 pub struct Failed;
 
-/// Where the bytes of an input come from.
+/// An input: where bytes come from.
 pub trait Source {
-    /// What is left to read, where that is told.
+    /// What is left to read, if that is known.
     ghost left: { Self → Option (List ℕ) };
 
     /// How often a read failed.
@@ -28,15 +28,15 @@ pub trait Source {
         ensures cause { HasReadCause (faults self.old) (faults self.new) result };
 }
 
-/// Where the bytes of an output go to.
+/// An output: where bytes go to.
 pub trait Sink {
-    /// What was written, where that is told.
+    /// What was written, if that is known.
     ghost holds: { Self → Option (List ℕ) };
 
     /// How often a write failed.
     ghost faults: { Self → ℕ };
 
-    /// Writes some bytes from the front of a piece, and answers how many. A write that fails adds nothing.
+    /// Writes some bytes from the front of a piece, and returns how many. A write that fails adds nothing.
     fn write(&mut self, piece: &[u8]) -> Result<usize, Failed>
         requires { 0 < length piece.now }
         ensures took { IfOk result (λ n. (0 < n) × (n ≤ length piece.now)) }
@@ -44,7 +44,7 @@ pub trait Sink {
         ensures cause { HasWriteCause (faults self.old) (faults self.new) result };
 }
 
-/// Writes a text whole. After a fault a front of it was written.
+/// Writes the whole text. After a fault only a front of it was written.
 pub fn write_all<O: Sink>(output: &mut O, text: &[u8]) -> Result<(), Failed>
     ensures whole { OnOk result (O.holds output.new ≡ option_map (λ held. held ++ text.now) (O.holds output.old)) }
     ensures part { (k : ℕ) × (O.holds output.new ≡ option_map (λ held. held ++ take k text.now) (O.holds output.old)) }

@@ -1,5 +1,5 @@
-//! The traits of the outside: where bytes come from and go to, and what keeps logs under paths. Each of them also in
-//! memory, with scripts of faults.
+//! The outside world as traits: an input, an output and a directory of logs. Each of them also stands in memory, with
+//! a script of its faults.
 #![tactic(auto)]
 
 mod cabinet;
@@ -10,4 +10,4 @@ mod memory_cabinet;
 pub use cabinet::Cabinet;
 pub use edge::{Failed, Got, Sink, Source, write_all};
 pub use memory::{MemorySink, MemorySource};
-pub use memory_cabinet::{MemoryCabinet, Slot};
+pub use memory_cabinet::{MemoryCabinet, PathLog};

@@ -1,14 +1,14 @@
-ghost use Rattle.std.specs.Prelude.{◌≡◌, ◌<◌, ◌≤◌, ◌↔◌, [], length, Some, IsTrue, IsErr, is_err, IfOk, MatchResult, OnErr};
+ghost use Rattle.std.specs.Prelude.{◌≡◌, ◌<◌, ◌≤◌, ◌+◌, ◌⊎◌, ◌↔◌, [], length, Some, IsTrue, IsErr, is_err, IfOk, MatchResult, OnErr};
 ghost use Rattle.ps_keeper.specs.Cause.{Rose};
 ghost use Rattle.ps_edge.specs.Edge.{Takes, Adds, HasReadCause, HasWriteCause};
-ghost use Rattle.ps_edge.specs.Memory.{up, fails_next, after_call};
+ghost use Rattle.ps_edge.specs.Memory.{after_call, fails_next, got, unread};
 
 use crate::edge::{Failed, Got, Sink, Source};
 use ps_base as base;
 use std::alloc::Global;
 use std::marker::Model;
 
-/// Which calls fail, by their numbers from 1, and how many there were.
+/// The numbers of the calls that fail, from 1, and how many calls there were.
 #[derive(Drop)]
 struct Script {
     failing: base::List<u64>,
@@ -26,7 +26,7 @@ impl Model for Script {
 
 impl Script {
     fn new(failing: base::List<u64>) -> Script
-        ensures { result ≡ record { failing = failing; calls = 0; faults = 0 } }
+        ensures { result ≡ unread failing }
     {
         Script {
             failing,
@@ -56,7 +56,7 @@ impl Script {
     }
 }
 
-/// Bytes to read. The reads whose numbers, counted from 1, are in its script fail, and no others.
+/// An input in memory. Its reads are counted from 1, and those that its script names fail, and no others.
 #[derive(Drop)]
 pub struct MemorySource {
     bytes: base::Octets,
@@ -77,7 +77,7 @@ impl Model for MemorySource {
 
 impl MemorySource {
     pub fn new(bytes: base::Octets, failing: base::List<u64>) -> MemorySource
-        ensures { result ≡ record { left = bytes; script = record { failing = failing; calls = 0; faults = 0 } } }
+        ensures { result ≡ record { left = bytes; script = unread failing } }
     {
         MemorySource {
             bytes,
@@ -97,6 +97,7 @@ impl Source for MemorySource {
         ensures bytes { Takes (Some self.old.left) (Some self.new.left) room.new result }
         ensures cause { HasReadCause self.old.script.faults self.new.script.faults result }
         ensures fails { (result ≡ Got.Failed) ↔ IsTrue (fails_next self.old.script) }
+        ensures gives { result ≡ got self.old (length room.old) }
         ensures counted { self.new.script ≡ after_call self.old.script (fails_next self.old.script) }
     {
         let fails = self.script.fails_next();
@@ -115,7 +116,8 @@ impl Source for MemorySource {
     }
 }
 
-/// What was written. The writes whose numbers, counted from 1, are in its script fail, and those that find no memory.
+/// An output in memory. Its writes are counted from 1, and those that its script names fail. Any other write fails only
+/// if it runs out of memory.
 #[derive(Drop)]
 pub struct MemorySink {
     bytes: Vec<u8>,
@@ -123,16 +125,18 @@ pub struct MemorySink {
 }
 
 impl Model for MemorySink {
+    ghost use Rattle.std.specs.Prelude.{vec_capacity};
     ghost use Rattle.ps_edge.specs.Memory.{Output};
 
     ghost Value = { Output };
 
-    ghost view = { λ s. record { bytes = s.bytes.items; script = s.script } };
+    ghost view = { λ s. record { bytes = s.bytes.items; capacity = vec_capacity s.bytes; script = s.script } };
 }
 
 impl MemorySink {
     pub fn new(alloc: Global, failing: base::List<u64>) -> MemorySink
-        ensures { result ≡ record { bytes = []; script = record { failing = failing; calls = 0; faults = 0 } } }
+        ensures bytes { result.bytes ≡ [] }
+        ensures script { result.script ≡ unread failing }
     {
         MemorySink {
             bytes: Vec::new(alloc),
@@ -157,7 +161,10 @@ impl Sink for MemorySink {
         ensures took { IfOk result (λ n. n ≡ length piece.now) }
         ensures bytes { MatchResult result (λ n. Adds (Some self.old.bytes) (Some self.new.bytes) piece.now n) (λ _. Some self.new.bytes ≡ Some self.old.bytes) }
         ensures cause { HasWriteCause self.old.script.faults self.new.script.faults result }
-        ensures fails { IsTrue (fails_next self.old.script) → IsErr result }
+        ensures scripted { IsTrue (fails_next self.old.script) → IsErr result }
+        // it fails by the script, or because it needs more memory than it has
+        ensures fails { IsErr result → IsTrue (fails_next self.old.script) ⊎ (self.old.capacity < length self.old.bytes + length piece.now) }
+        ensures capacity { self.old.capacity ≤ self.new.capacity }
         ensures counted { self.new.script ≡ after_call self.old.script (is_err result) }
     {
         let fails = self.script.fails_next() || self.bytes.extend_from_slice(piece).is_err();

@@ -1,8 +1,9 @@
-ghost use Rattle.std.specs.Prelude.{◌≡◌, ◌+◌, ◌-◌, ◌^◌, min, [], Option, Some, None, true, false, IfOk, OnOk, OnErr, option_map, IfSome, IsSomeAnd, ◌++◌, ◌∷◌, if◌then◌else◌, position};
+ghost use Rattle.std.specs.Prelude.{◌≡◌, ◌≢◌, ◌+◌, ◌-◌, ◌^◌, ℕ, List, min, [], Err, IsTrue, is_ok, Option, Some, None, true, false, IfOk, OnOk, OnErr, option_map, IfSome, IsSomeAnd, ◌++◌, ◌∷◌, if◌then◌else◌, position};
 ghost use Rattle.std.specs.Str.{bytes_eq};
 ghost use Rattle.ps_keeper.specs.Cause.{HasCause};
 ghost use Rattle.ps_edge.specs.Files.{HasAsked, dash};
-ghost use Rattle.ps_edge.specs.Slots.{kept, stored, is_out_of, handed};
+ghost use Rattle.ps_keeper.specs.Memory.{fresh};
+ghost use Rattle.ps_edge.specs.PathLogs.{after_back, handed, is_out_of, is_unfailed, kept, slot_at, stored};
 
 use crate::cabinet::Cabinet;
 use ps_base::{List, OutOfMemory, Text};
@@ -10,25 +11,25 @@ use ps_keeper::{KeeperError, MemoryKeeper};
 use std::alloc::Global;
 use std::marker::Model;
 
-/// A path of a cabinet, with its keeper unless that is out.
+/// A path of a cabinet, and its keeper unless that is out.
 #[derive(Drop)]
-pub struct Slot {
+pub struct PathLog {
     pub path: Text,
     pub keeper: Option<MemoryKeeper>,
 }
 
-/// A cabinet that keeps named keepers in memory.
+/// A directory of logs in memory. It fails only if it runs out of memory.
 #[derive(Drop)]
 pub struct MemoryCabinet {
     alloc: Global,
-    slots: Vec<Slot>,
+    slots: Vec<PathLog>,
     asked: Option<List<Text>>,
     faults: u64,
 }
 
 impl Model for MemoryCabinet {
     ghost use Rattle.std.specs.Prelude.{◌≡◌, true};
-    ghost use Rattle.ps_edge.specs.Slots.{Files, all_unfailed};
+    ghost use Rattle.ps_edge.specs.PathLogs.{Files, all_unfailed};
 
     ghost Value = { Files };
 
@@ -37,21 +38,22 @@ impl Model for MemoryCabinet {
     ghost invariant = { λ c. all_unfailed c.slots.items ≡ true };
 }
 
-fn place_of(slots: &[Slot], path: &str) -> Option<usize>
+fn place_of(slots: &[PathLog], path: &str) -> Option<usize>
     ensures { result ≡ position (λ s. bytes_eq s.path path.now) slots.now }
 {
     slots.iter().position(|slot| slot.path.as_str() == path)
 }
 
-/// Takes the keeper out of a slot, which is made where it is missing, so that there is room for its return.
+/// Takes the keeper out of its slot. A missing slot is made, so that there is room for its return.
 fn take_out(
     alloc: Global,
-    slots: &mut Vec<Slot>,
+    slots: &mut Vec<PathLog>,
     path: &str,
 ) -> Result<Option<MemoryKeeper>, OutOfMemory>
     ensures keeper { IfOk result (λ keeper. keeper ≡ kept path.now slots.old.items) }
     ensures ok { OnOk result (slots.new.items ≡ stored path.now None slots.old.items) }
     ensures err { OnErr result (slots.new.items ≡ slots.old.items) }
+    ensures fails { OnErr result (slot_at path.now slots.old.items ≡ None) }
 {
     match place_of(slots.as_slice(), path) {
         Some(at) => {
@@ -60,21 +62,22 @@ fn take_out(
         }
         None => {
             let path = Text::from_str(alloc, path)?;
-            slots.push(Slot { path, keeper: None })?;
+            slots.push(PathLog { path, keeper: None })?;
             Ok(None)
         }
     }
 }
 
-/// Puts a keeper into a slot, which is made where it is missing.
+/// Puts a keeper into its slot. A missing slot is made.
 fn put_in(
     alloc: Global,
-    slots: &mut Vec<Slot>,
+    slots: &mut Vec<PathLog>,
     path: &str,
     keeper: MemoryKeeper,
 ) -> Result<(), OutOfMemory>
     ensures ok { OnOk result (slots.new.items ≡ stored path.now (Some keeper) slots.old.items) }
     ensures err { OnErr result (slots.new.items ≡ slots.old.items) }
+    ensures fails { OnErr result (slot_at path.now slots.old.items ≡ None) }
 {
     match place_of(slots.as_slice(), path) {
         Some(at) => {
@@ -84,7 +87,7 @@ fn put_in(
         }
         None => {
             let path = Text::from_str(alloc, path)?;
-            slots.push(Slot {
+            slots.push(PathLog {
                 path,
                 keeper: Some(keeper),
             })?;
@@ -93,9 +96,9 @@ fn put_in(
     }
 }
 
-/// Puts a keeper back where one is out for this path.
-fn put_back(slots: &mut Vec<Slot>, path: &str, keeper: MemoryKeeper)
-    ensures { slots.new.items ≡ (if is_out_of path.now slots.old.items then stored path.now (Some keeper) slots.old.items else slots.old.items) }
+/// Puts a keeper back if one is out for this path.
+fn put_back(slots: &mut Vec<PathLog>, path: &str, keeper: MemoryKeeper)
+    ensures { slots.new.items ≡ after_back path.now keeper slots.old.items }
 {
     if let Some(at) = place_of(slots.as_slice(), path) {
         if slots[at].keeper.is_none() {
@@ -105,7 +108,7 @@ fn put_back(slots: &mut Vec<Slot>, path: &str, keeper: MemoryKeeper)
     }
 }
 
-/// The list of paths asked for with one more, where there is memory for it.
+/// The list of paths asked for with one more, or `None` if there is no memory for it.
 fn noted(alloc: Global, asked: Option<List<Text>>, path: &str) -> Option<List<Text>>
     ensures { HasAsked path.now asked result }
 {
@@ -115,9 +118,11 @@ fn noted(alloc: Global, asked: Option<List<Text>>, path: &str) -> Option<List<Te
     Some(asked)
 }
 
-/// What is handed out of a slot.
+/// The keeper that is handed out of a slot.
 fn handed(alloc: Global, path: &str, keeper: Option<MemoryKeeper>) -> MemoryKeeper
-    ensures { result ≡ handed (bytes_eq path.now dash) keeper }
+    requires { is_unfailed keeper ≡ true }
+    ensures keeper { result ≡ handed (bytes_eq path.now dash) keeper }
+    ensures unfailed { result.faults ≡ 0 }
 {
     match keeper {
         Some(keeper) => {
@@ -143,12 +148,13 @@ impl MemoryCabinet {
         }
     }
 
-    /// Lays a keeper under a path, in place of one that lay there.
+    /// Puts a keeper under a path, in place of an older one. It fails only for a new path, if it runs out of memory.
     pub fn put(&mut self, path: &str, keeper: MemoryKeeper) -> Result<(), OutOfMemory>
         requires unfailed { keeper.faults ≡ 0 }
         requires empty { path.now ≡ dash → keeper.log ≡ [] }
         ensures ok { OnOk result (self.new ≡ record self.old { slots = stored path.now (Some keeper) self.old.slots }) }
         ensures err { OnErr result (self.new ≡ self.old) }
+        ensures fails { OnErr result (slot_at path.now self.old.slots ≡ None) }
     {
         put_in(self.alloc, &mut self.slots, path, keeper)
     }
@@ -158,9 +164,9 @@ impl Cabinet for MemoryCabinet {
     type K = MemoryKeeper;
 
     ghost use Rattle.std.specs.Prelude.{◌≡◌, Some, true};
-    ghost use Rattle.ps_edge.specs.Slots.{log_under, is_out_of};
+    ghost use Rattle.ps_edge.specs.PathLogs.{log_under, is_out_of};
 
-    ghost tells = { λ _ _. true };
+    ghost known = { λ _ _. true };
 
     ghost log = { λ c path. Some (log_under path c.slots) };
 
@@ -172,13 +178,33 @@ impl Cabinet for MemoryCabinet {
 
     ghost faults = { λ c. c.faults };
 
-    fn keeper(&mut self, path: &str) -> Result<MemoryKeeper, KeeperError> {
+    fn keeper(&mut self, path: &str) -> Result<MemoryKeeper, KeeperError>
+        // it fails only if it has no slot for this path, and no memory to make one
+        ensures fails { OnErr result (slot_at path.now self.old.slots ≡ None) }
+        ensures memory { result ≢ Err KeeperError.Failed }
+        ensures gives { IfOk result (λ keeper. keeper ≡ handed (bytes_eq path.now dash) (kept path.now self.old.slots)) }
+        ensures unfailed { IfOk result (λ keeper. keeper.faults ≡ 0) }
+        ensures taken { OnOk result (slot_at path.now self.new.slots ≡ Some None) }
+        ensures refused { OnErr result (self.new.slots ≡ self.old.slots) }
+        ensures others { (other : List ℕ) → other ≢ path.now → slot_at other self.new.slots ≡ slot_at other self.old.slots }
+        ensures asked { HasAsked path.now self.old.asked self.new.asked }
+        ensures faults { self.new.faults ≡ self.old.faults }
+        ensures known { (any : List ℕ) → IsTrue (⟦<MemoryCabinet as Cabinet>⟧.known self.new any) }
+    {
         self.asked = noted(self.alloc, self.asked.take(), path);
         let keeper = take_out(self.alloc, &mut self.slots, path)?;
         Ok(handed(self.alloc, path, keeper))
     }
 
-    fn back(&mut self, path: &str, keeper: MemoryKeeper) {
+    fn back(&mut self, path: &str, keeper: MemoryKeeper)
+        ensures out { is_out_of path.now self.new.slots ≡ false }
+        ensures kept { IsTrue (is_out_of path.now self.old.slots) → slot_at path.now self.new.slots ≡ Some (Some (fresh keeper.log)) }
+        ensures dropped { is_out_of path.now self.old.slots ≡ false → self.new.slots ≡ self.old.slots }
+        ensures others { (other : List ℕ) → other ≢ path.now → slot_at other self.new.slots ≡ slot_at other self.old.slots }
+        ensures asked { self.new.asked ≡ self.old.asked }
+        ensures faults { self.new.faults ≡ min (self.old.faults + keeper.faults) (2 ^ 64 - 1) }
+        ensures known { (any : List ℕ) → IsTrue (⟦<MemoryCabinet as Cabinet>⟧.known self.new any) }
+    {
         self.faults = self.faults.saturating_add(keeper.faults());
         put_back(&mut self.slots, path, keeper.reopened());
     }

@@ -1,4 +1,4 @@
--- What the calls of a keeper do to its log, where it is told, and to the logs that a crash may leave.
+-- What the calls of a keeper do to its log, if that is known, and to the logs that a crash may leave.
 use Rattle.std.specs.Prelude.{◌≡◌, ◌⊎◌, ℕ, List, [], ◌∷◌, ◌++◌, Option, Some, None, Result, IfSome, OnOk, OnErr, MatchOption}
 
 -- the bodies, oldest first
@@ -9,7 +9,7 @@ Log = List (List ℕ)
 abbrev pub IsAlone : Log → (Log → Type 0) → Type 0
 IsAlone log may_leave = (left : Log) → may_leave left → left ≡ log
 
--- the log is the old one or the one that the call would make, where both are told
+-- the log is the old one or the one that the call would make, if both can be read
 abbrev pub IsOldOrNew : (Log → Log) → Option Log → Option Log → Type 0
 IsOldOrNew change None None = Unit {0}
 IsOldOrNew change None (Some now) = ⊥
@@ -31,7 +31,7 @@ pub record IsMade (change : Log → Log) (was now : Option Log) (may_leave : Log
   -- and a crash leaves nothing else
   pub alone : IsAlone (change old) may_leave
 
--- what a call that makes this change does to a keeper that still tells
+-- what a call that makes this change does to a log that is still known
 pub record Changes {T E : Type 0} (change : Log → Log) (was now : Option Log) (before after : Log → Type 0) (result : Result T E) : Type 0 where
   -- an answer: the change is made
   pub ok : OnOk result (IsMade change was now after)
@@ -42,12 +42,12 @@ pub record Changes {T E : Type 0} (change : Log → Log) (was now : Option Log) 
 
 -- what a call that only reads does
 pub record Keeps {T E : Type 0} (was now : Option Log) (before after : Log → Type 0) (result : Result T E) : Type 0 where
-  -- the log, where it can be read still, is the old one
+  -- if the log can still be read, it is the old one
   pub same : IfSome now (λ log. was ≡ Some log)
   -- an answer: a crash leaves this log alone
   pub ok : OnOk result (IfSome now (λ log. IsAlone log after))
   -- an answer: the log can be read
-  pub told : OnOk result ((log : Log) × (now ≡ Some log))
+  pub readable : OnOk result ((log : Log) × (now ≡ Some log))
   -- a crash leaves nothing that it couldn't leave before
   pub crash : (left : Log) → after left → before left
 

@@ -8,6 +8,6 @@ abbrev pub numbered_from : ℕ → Log → List Row
 numbered_from n [] = []
 numbered_from n (body ∷ bodies) = (record { seq = n; body = body }) ∷ numbered_from (n + 1) bodies
 
--- at most so many rows after this number, in order
+-- at most this many rows after this number, in order
 abbrev pub page : ℕ → ℕ → Log → List Row
 page after most log = numbered_from (after + 1) (take most (drop after log))

@@ -1,4 +1,4 @@
-//! The trait of a keeper of numbered rows, and a keeper in memory that fails by a script.
+//! A log of numbered rows as a trait, and a log in memory that fails by a script.
 #![tactic(auto)]
 
 mod keeper;

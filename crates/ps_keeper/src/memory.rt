@@ -2,23 +2,23 @@ ghost use Rattle.std.specs.Prelude.{◌≡◌, ◌==◌, ◌<◌, ◌≤◌, ◌
 ghost use Rattle.ps_keeper.specs.Log.{Log, Changes, Keeps, appended, replaced};
 ghost use Rattle.ps_keeper.specs.Cause.{HasCause, Rose};
 ghost use Rattle.ps_keeper.specs.Rows.{page, numbered_from};
-ghost use Rattle.ps_keeper.specs.Memory.{Follows, fate, up};
+ghost use Rattle.ps_keeper.specs.Memory.{Counts, FailsBy, StoresBy, fate, fresh, log_after, up};
 
 use crate::keeper::{Keeper, KeeperError, Row};
 use ps_base as base;
 use std::alloc::Global;
 use std::marker::Model;
 
-/// Whether a call that fails has stored before it does.
+/// Whether a call that fails has stored first.
 #[derive(Clone, Copy, Debug, PartialEq, Eq)]
 pub enum When {
     /// It fails and changes nothing.
     Before,
-    /// It makes its change, unless memory is wanting, and fails then.
+    /// It makes its change and then fails. If memory runs out it changes nothing, and says so.
     After,
 }
 
-/// A keeper in memory, which fails at the calls of its script. It numbers rows by their places.
+/// A log in memory, which fails at the calls of its script. The number of a row is its place, from 1.
 #[derive(Drop)]
 pub struct MemoryKeeper {
     alloc: Global,
@@ -68,9 +68,9 @@ fn page_of(
 }
 
 impl MemoryKeeper {
-    /// An empty log, and no fault.
+    /// An empty log that never fails.
     pub fn new(alloc: Global) -> MemoryKeeper
-        ensures { result ≡ record { log = []; script = []; calls = 0; faults = 0 } }
+        ensures { result ≡ fresh [] }
     {
         MemoryKeeper {
             alloc,
@@ -81,8 +81,8 @@ impl MemoryKeeper {
         }
     }
 
-    /// An empty log. The calls of `append`, `replace` and `rows` with these numbers, counted together from 1,
-    /// fail.
+    /// An empty log. Its calls of `append`, `replace` and `rows` are counted together from 1, and those with
+    /// these numbers fail.
     pub fn failing(alloc: Global, script: base::List<(u64, When)>) -> MemoryKeeper
         ensures { result ≡ record { log = []; script = script; calls = 0; faults = 0 } }
     {
@@ -95,16 +95,16 @@ impl MemoryKeeper {
         }
     }
 
-    /// The bodies, oldest first. It counts as no call.
+    /// Returns the bodies, oldest first. It isn't counted as a call.
     pub fn log(&self) -> &[base::Octets]
         ensures { result.now ≡ self.now.log }
     {
         self.bodies.as_slice()
     }
 
-    /// The same log in a keeper that never fails, as `new` makes it.
+    /// The same log in a keeper that never fails, as if made by `new`.
     pub fn reopened(self) -> MemoryKeeper
-        ensures { result ≡ record { log = self.log; script = []; calls = 0; faults = 0 } }
+        ensures { result ≡ fresh self.log }
     {
         let MemoryKeeper {
             alloc,
@@ -122,58 +122,53 @@ impl MemoryKeeper {
         }
     }
 
-    /// How often a call failed by the script.
+    /// Returns how often a call failed by the script.
     pub fn faults(&self) -> u64
         ensures { result ≡ self.now.faults }
     {
         self.faults
     }
 
-    /// Counts a call, and answers what the script says of it.
+    /// Counts a call, and returns what the script says of it.
     fn next_fate(&mut self) -> Option<When>
         ensures fate { result ≡ fate self.old }
-        ensures later { self.old.faults ≤ self.new.faults }
-        ensures rose { OnSome result (Rose self.old.faults self.new.faults) }
-        ensures counted { self.new ≡ record self.old { calls = up self.old.calls; faults = (if is_some result then up self.old.faults else self.old.faults) } }
+        ensures counted { self.new ≡ record self.old { calls = up self.old.calls } }
     {
         self.calls = self.calls.saturating_add(1);
-        let fate = fate_of(self.script.as_slice(), self.calls);
-        if fate.is_some() {
-            self.faults = self.faults.saturating_add(1);
-        }
-        fate
+        fate_of(self.script.as_slice(), self.calls)
     }
 
-    /// Stores one more body, unless the call fails before that.
-    fn store(&mut self, fate: Option<When>, body: &[u8]) -> Result<(), KeeperError>
-        ensures ok { OnOk result (self.new ≡ record self.old { log = self.old.log ++ body.now ∷ [] }) }
-        ensures err { OnErr result (self.new ≡ self.old) }
-        ensures before { (result ≡ Err KeeperError.Failed) ↔ (fate ≡ Some When.Before) }
+    /// Counts a failure.
+    fn fail(&mut self) -> KeeperError
+        ensures error { result ≡ KeeperError.Failed }
+        ensures counted { self.new ≡ record self.old { faults = up self.old.faults } }
+        ensures later { self.old.faults ≤ self.new.faults }
     {
-        if let Some(When::Before) = fate {
-            return Err(KeeperError::Failed);
-        }
-        let body = base::Octets::from_slice(self.alloc, body)?;
-        self.bodies.push(body)?;
-        Ok(())
+        self.faults = self.faults.saturating_add(1);
+        KeeperError::Failed
     }
 
-    /// Stores these bodies in place of the log, unless the call fails before that.
-    fn store_all(&mut self, fate: Option<When>, rows: &[base::Octets]) -> Result<(), KeeperError>
+    /// Stores one more body.
+    fn store(&mut self, body: &[u8]) -> Result<(), base::OutOfMemory>
+        ensures ok { OnOk result (self.new ≡ record self.old { log = appended body.now self.old.log }) }
+        ensures err { OnErr result (self.new ≡ self.old) }
+    {
+        let body = base::Octets::from_slice(self.alloc, body)?;
+        self.bodies.push(body)
+    }
+
+    /// Replaces the log by these bodies.
+    fn store_all(&mut self, rows: &[base::Octets]) -> Result<(), base::OutOfMemory>
         ensures ok { OnOk result (self.new ≡ record self.old { log = rows.now }) }
         ensures err { OnErr result (self.new ≡ self.old) }
-        ensures before { (result ≡ Err KeeperError.Failed) ↔ (fate ≡ Some When.Before) }
     {
-        if let Some(When::Before) = fate {
-            return Err(KeeperError::Failed);
-        }
         self.bodies = base::List::copy_of(self.alloc, rows)?;
         Ok(())
     }
 }
 
 impl Keeper for MemoryKeeper {
-    ghost tells = { λ _. true };
+    ghost known = { λ _. true };
 
     ghost log = { λ k. Some k.log };
 
@@ -183,45 +178,55 @@ impl Keeper for MemoryKeeper {
 
     fn append(&mut self, seq: u64, body: &[u8]) -> Result<(), KeeperError>
         requires { seq ≤ 2 ^ 62 }
+        ensures fails { StoresBy (fate self.old) result }
+        ensures stored { self.new.log ≡ log_after (appended body.now) (fate self.old) result self.old.log }
+        ensures counted { Counts self.old self.new result }
+        ensures known { IsTrue (⟦<MemoryKeeper as Keeper>⟧.known self.new) }
         ensures change { Changes (appended body.now) (Some self.old.log) (Some self.new.log) (λ left. left ≡ self.old.log) (λ left. left ≡ self.new.log) result }
         ensures cause { HasCause self.old.faults self.new.faults result }
-        ensures script { Follows self.old self.new result }
-        ensures before { fate self.old ≡ Some When.Before → self.new.log ≡ self.old.log }
     {
         let _ = seq;
-        let fate = self.next_fate();
-        let stored = self.store(fate, body);
-        match fate {
-            Some(_) => Err(KeeperError::Failed),
-            None => stored,
+        match self.next_fate() {
+            Some(When::Before) => Err(self.fail()),
+            Some(When::After) => {
+                self.store(body)?;
+                Err(self.fail())
+            }
+            None => Ok(self.store(body)?),
         }
     }
 
     fn replace(&mut self, rows: &[base::Octets]) -> Result<(), KeeperError>
+        ensures fails { StoresBy (fate self.old) result }
+        ensures stored { self.new.log ≡ log_after (replaced rows.now) (fate self.old) result self.old.log }
+        ensures counted { Counts self.old self.new result }
+        ensures known { IsTrue (⟦<MemoryKeeper as Keeper>⟧.known self.new) }
         ensures change { Changes (replaced rows.now) (Some self.old.log) (Some self.new.log) (λ left. left ≡ self.old.log) (λ left. left ≡ self.new.log) result }
         ensures cause { HasCause self.old.faults self.new.faults result }
-        ensures script { Follows self.old self.new result }
-        ensures before { fate self.old ≡ Some When.Before → self.new.log ≡ self.old.log }
     {
-        let fate = self.next_fate();
-        let stored = self.store_all(fate, rows);
-        match fate {
-            Some(_) => Err(KeeperError::Failed),
-            None => stored,
+        match self.next_fate() {
+            Some(When::Before) => Err(self.fail()),
+            Some(When::After) => {
+                self.store_all(rows)?;
+                Err(self.fail())
+            }
+            None => Ok(self.store_all(rows)?),
         }
     }
 
     fn rows(&mut self, alloc: Global, after: u64, most: u32) -> Result<base::List<Row>, KeeperError>
         requires number { after ≤ 2 ^ 62 }
         requires some { 0 < most }
+        ensures fails { FailsBy (fate self.old) result }
         ensures log { self.new.log ≡ self.old.log }
+        ensures counted { Counts self.old self.new result }
+        ensures known { IsTrue (⟦<MemoryKeeper as Keeper>⟧.known self.new) }
         ensures rows { IfOk result (λ rows. rows ≡ page after most self.old.log) }
         ensures most { IfOk result (λ rows. length rows ≤ most) }
         ensures cause { HasCause self.old.faults self.new.faults result }
-        ensures script { Follows self.old self.new result }
     {
         if self.next_fate().is_some() {
-            return Err(KeeperError::Failed);
+            return Err(self.fail());
         }
         Ok(page_of(alloc, self.bodies.as_slice(), after, most)?)
     }

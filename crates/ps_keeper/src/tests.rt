@@ -30,20 +30,20 @@ fn call(alloc: Global, keeper: &mut MemoryKeeper, number: u64) -> Result<(), Kee
     }
 }
 
-/// What four calls do: after each the bodies of the log, behind a mark where it failed.
+/// The bodies of the log after each of four calls, with a mark before them if the call failed.
 fn story(alloc: Global, keeper: &mut MemoryKeeper) -> Result<Vec<u8>, base::OutOfMemory> {
-    let mut told = Vec::new(alloc);
+    let mut seen = Vec::new(alloc);
     for number in 1..5 {
-        told.push(if call(alloc, keeper, number).is_ok() {
+        seen.push(if call(alloc, keeper, number).is_ok() {
             b' '
         } else {
             b'!'
         })?;
         for body in keeper.log() {
-            told.extend_from_slice(body.as_slice())?;
+            seen.extend_from_slice(body.as_slice())?;
         }
     }
-    Ok(told)
+    Ok(seen)
 }
 
 #[test]

@@ -1,5 +1,5 @@
 use Rattle.std.proofs.Common.{ap, ◌∙◌, not}
-use Rattle.ps_edge.proofs.SlotLemmas.{found-in, stored-placed, slot_at-placed, slot_at-unplaced, back-is, back-not, back-nowhere}
+use Rattle.ps_edge.proofs.PathLogLemmas.{found-in, stored-placed, slot_at-placed, slot_at-unplaced, back-is, back-not, back-nowhere}
 use Rattle.ps_edge.proofs.memory_cabinet.put_back.Goals as goal
 
 pub returns-then-is_none : goal.returns-then-is_none

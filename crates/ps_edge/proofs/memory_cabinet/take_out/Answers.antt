@@ -1,7 +1,7 @@
 use Rattle.std.proofs.Common.{Option, sym, ap, ◌∙◌}
 use Rattle.std.specs.Prelude.{option_and_then}
 use Rattle.ps_keeper.specs.Memory.{Memory}
-use Rattle.ps_edge.proofs.SlotLemmas.{found-in, stored-placed, slot_at-placed, slot_at-unplaced, stored-unplaced}
+use Rattle.ps_edge.proofs.PathLogLemmas.{found-in, stored-placed, slot_at-placed, slot_at-unplaced, stored-unplaced, on-err}
 use Rattle.ps_edge.proofs.memory_cabinet.take_out.Goals as goal
 
 pub returns-in-Some-clause-keeper : goal.returns-in-Some-clause-keeper
@@ -25,3 +25,11 @@ returns-in_ok-push-in-None-clause-ok c =
     let path = c.in_ok-path-in-None.ensures in
     let made = stored-unplaced c.args.path.now _ c.args.slots.now.items found in
     c.in_ok-push-in-None.ensures.items ∙ rw path (sym made)
+
+pub returns-in_err-path-in-None-clause-fails : goal.returns-in_err-path-in-None-clause-fails
+returns-in_err-path-in-None-clause-fails c =
+    on-err c.from_residual.result (slot_at-unplaced c.args.path.now c.args.slots.now.items (found-in c.args.path.now c.as_slice.result.now c.args.slots.now.items _ c.as_slice.ensures.value c.in-None.ensures))
+
+pub returns-in_err-push-in-None-clause-fails : goal.returns-in_err-push-in-None-clause-fails
+returns-in_err-push-in-None-clause-fails c =
+    on-err c.from_residual-in_err-push-in-None.result (slot_at-unplaced c.args.path.now c.args.slots.now.items (found-in c.args.path.now c.as_slice.result.now c.args.slots.now.items _ c.as_slice.ensures.value c.in-None.ensures))

@@ -1,4 +1,4 @@
-use Rattle.ps_edge.proofs.SlotLemmas.{put-unfailed}
+use Rattle.ps_edge.proofs.PathLogLemmas.{put-unfailed}
 use Rattle.ps_edge.proofs.memory_cabinet.MemoryCabinet.put.Goals as goal
 
 pub invariant_of-self : goal.invariant_of-self

@@ -1,8 +1,7 @@
-use Rattle.std.proofs.Common.{◌≡◌, ap, ◌∙◌, List, Some}
-use Rattle.ps_keeper.specs.Log.{Log}
-use Rattle.ps_edge.specs.Slots.{Files, is_out_of, all_unfailed}
-use Rattle.ps_edge.specs.declared.memory_cabinet.Slot.{Slot}
-use Rattle.ps_edge.proofs.SlotLemmas.{back-out, back-kept, back-other, back-unfailed, same-file, same-out, told-true}
+use Rattle.std.proofs.Common.{ap, ◌∙◌, List}
+use Rattle.ps_edge.specs.PathLogs.{is_out_of, slot_at, all_unfailed}
+use Rattle.ps_edge.specs.declared.memory_cabinet.PathLog.{PathLog}
+use Rattle.ps_edge.proofs.PathLogLemmas.{back-out, back-kept, back-dropped, back-other, back-unfailed}
 use Rattle.ps_edge.proofs.memory_cabinet.MemoryCabinetCabinet.back.Goals as goal
 
 pub invariant_of-self : goal.invariant_of-self
@@ -10,23 +9,15 @@ invariant_of-self c =
     ap all_unfailed c.put_back.ensures ∙ back-unfailed c.args.path.now c.reopened.result c.self.inside.slots.items (rw c.reopened.ensures) c.self.invariant
 
 pub returns-clause-out : goal.returns-clause-out
-returns-clause-out c = ap (λ (slots : List Slot). is_out_of c.args.path.now slots) c.put_back.ensures ∙ back-out c.args.path.now c.reopened.result c.self.inside.slots.items
+returns-clause-out c = ap (λ (slots : List PathLog). is_out_of c.args.path.now slots) c.put_back.ensures ∙ back-out c.args.path.now c.reopened.result c.self.inside.slots.items
 
 pub returns-clause-kept : goal.returns-clause-kept
-returns-clause-kept c out tells =
-    let slots = c.self.inside.slots.items in
-    let was : is_out_of c.args.path.now slots ≡ is_out_of c.args.path.now c.args.self.now.slots = ap (λ (f : Files). is_out_of c.args.path.now f.slots) c.self.view_is in
-    let log = back-kept c.args.path.now c.reopened.result slots (was ∙ told-true _ out) ∙ ap (λ (m : _). m.log) c.reopened.ensures in
-    rw c.put_back.ensures (record {
-      does = tells;
-      log = ap (λ (l : Log). Some l) log;
-      crash = λ left is. is ∙ log;
-    })
+returns-clause-kept c = rw (← c.self.view_is, ← c.reopened.ensures) (λ out.
+    ap (λ (slots : List PathLog). slot_at c.args.path.now slots) c.put_back.ensures ∙ back-kept c.args.path.now c.reopened.result c.self.inside.slots.items out)
+
+pub returns-clause-dropped : goal.returns-clause-dropped
+returns-clause-dropped c = rw (← c.self.view_is) (λ in_place. c.put_back.ensures ∙ back-dropped c.args.path.now c.reopened.result c.self.inside.slots.items in_place)
 
 pub returns-clause-others : goal.returns-clause-others
 returns-clause-others c other differ =
-    rw (← c.self.view_is) (rw c.put_back.ensures (same-file other c.self.inside.slots.items _ (back-other c.args.path.now c.reopened.result c.self.inside.slots.items other differ)))
-
-pub returns-clause-others_out : goal.returns-clause-others_out
-returns-clause-others_out c other differ =
-    rw (← c.self.view_is) (rw c.put_back.ensures (same-out other c.self.inside.slots.items _ (back-other c.args.path.now c.reopened.result c.self.inside.slots.items other differ)))
+    rw (← c.self.view_is) (ap (λ (slots : List PathLog). slot_at other slots) c.put_back.ensures ∙ back-other c.args.path.now c.reopened.result c.self.inside.slots.items other differ)
