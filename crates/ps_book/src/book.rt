@@ -4,15 +4,16 @@ ghost use Rattle.ps_keeper.specs.Cause.{Rose};
 ghost use Rattle.ps_book.specs.Meaning.{meaning};
 ghost use Rattle.ps_book.specs.Read.{IsOnlyRead, HasBadRow};
 ghost use Rattle.ps_book.specs.Cause.{HasCause};
-ghost use Rattle.ps_book.specs.Holding.{Holds, Stands, Begins, HoldsSome, WasJudgedIn, IsAnswered, IsRefused};
+ghost use Rattle.ps_book.specs.Books.{Answers, AnswersIn, BeginsFrom, BookMeans, FirstBadRow, FromWhereItStood, GoesOn, IsPresent, MayHaveRecorded, MayRecord, MeansSome, MeantNothing, OnlyRead, Records, Refuses, StaysKnown, StaysUnread};
 
 use crate::error::{BeginError, CallError};
 use crate::machine::{Machine, Verdict};
 use crate::replay::replay;
 use ps_keeper::Keeper;
 use std::alloc::Global;
+use std::marker::Model;
 
-/// A machine with the keeper of its entries. Where the machine is missing the book is in doubt.
+/// A write-ahead log and the machine that it means. Without its machine the book is in doubt.
 #[derive(Drop)]
 pub struct Book<M, K> {
     alloc: Global,
@@ -21,18 +22,29 @@ pub struct Book<M, K> {
     place: u64,
 }
 
-/// What a book answers to a call.
+impl<M, K> Model for Book<M, K> {
+    ghost use Rattle.std.specs.Prelude.{◌≤◌, ◌^◌};
+    ghost use Rattle.ps_book.specs.Journaled.{Journaled};
+
+    ghost Value = { Journaled M K };
+
+    ghost view = { λ b. record { keeper = b.keeper; machine = b.machine; place = b.place } };
+
+    ghost invariant = { λ b. b.place ≤ 2 ^ 50 };
+}
+
+/// The answer of a book to a call.
 #[derive(Drop)]
 pub struct Answer<R> {
-    /// What the machine replied.
+    /// The reply of the machine.
     pub reply: R,
     /// How many entries the log has after the call.
     pub place: u64,
-    /// Whether the call added one.
+    /// Whether the call added an entry.
     pub recorded: bool,
 }
 
-/// A keeper whose rows couldn't be read into a machine, and why.
+/// A log that couldn't be read into a machine, and why.
 #[derive(Drop)]
 pub struct Unbegun<K> {
     /// The keeper, with its log unchanged.
@@ -41,7 +53,7 @@ pub struct Unbegun<K> {
     pub error: BeginError,
 }
 
-/// Adds an entry at the end of the log. The machine has made its step.
+/// Adds an entry at the end of the log. The machine has already made its step.
 fn record<M: Machine, K: Keeper>(
     alloc: Global,
     keeper: &mut K,
@@ -49,16 +61,12 @@ fn record<M: Machine, K: Keeper>(
     entry: &M::Entry,
 ) -> Result<(), CallError>
     requires can { M.can_write entry.now }
-    requires next { IsTrue (K.tells keeper.old) → IfSome (K.log keeper.old) (λ log. M.number (M.world machine.now) ≡ length log + 1) }
-    ensures told { IsTrue (K.tells keeper.new) → IsTrue (K.tells keeper.old) }
-    ensures ok { OnOk result ((w : M.World) → M.next w entry.now ≡ Some (M.world machine.now)
-        → (IsTrue (K.tells keeper.old) → Holds (meaning M.next M.spelled M.first) w None (K.log keeper.old) (K.may_leave keeper.old))
-        → IsTrue (K.tells keeper.new) → Holds (meaning M.next M.spelled M.first) (M.world machine.now) None (K.log keeper.new) (K.may_leave keeper.new)) }
-    ensures err { OnErr result ((w : M.World) → M.next w entry.now ≡ Some (M.world machine.now)
-        → (IsTrue (K.tells keeper.old) → Holds (meaning M.next M.spelled M.first) w None (K.log keeper.old) (K.may_leave keeper.old))
-        → IsTrue (K.tells keeper.new) → Holds (meaning M.next M.spelled M.first) w (Some (M.world machine.now)) (K.log keeper.new) (K.may_leave keeper.new)) }
-    ensures unread { IsTrue (K.tells keeper.new) → K.log keeper.old ≡ None → K.log keeper.new ≡ None }
-    ensures unanswered { IsTrue (K.tells keeper.new) → K.log keeper.old ≡ None → is_ok result ≡ false }
+    requires next { IsTrue (K.known keeper.old) → IfSome (K.log keeper.old) (λ log. M.number (M.world machine.now) ≡ length log + 1) }
+    ensures still_known { StaysKnown K.Keeper keeper.old keeper.new }
+    ensures ok { OnOk result (Records M.Machine K.Keeper keeper.old keeper.new entry.now (M.world machine.now)) }
+    ensures err { OnErr result (MayRecord M.Machine K.Keeper keeper.old keeper.new entry.now (M.world machine.now)) }
+    ensures unread { StaysUnread K.Keeper keeper.old keeper.new }
+    ensures unanswered { IsTrue (K.known keeper.new) → K.log keeper.old ≡ None → is_ok result ≡ false }
     ensures no_row { IfErr result (λ e. (seq : ℕ) → e ≡ CallError.BadRow seq → ⊥) }
     ensures cause { HasCause (K.faults keeper.old) (K.faults keeper.new) result }
 {
@@ -68,17 +76,18 @@ fn record<M: Machine, K: Keeper>(
 }
 
 impl<M: Machine, K: Keeper> Book<M, K> {
-    /// Reads all rows of a keeper into a fresh machine. It refuses at the first bad row, at a failure of the
-    /// keeper and where memory is wanting, and hands the keeper back.
+    /// Reads all rows of a log into a fresh machine. At the first bad row, at a failure of the keeper and if memory
+    /// runs out it hands the keeper back.
     pub fn begin(alloc: Global, mut machine: M, mut keeper: K) -> Result<Book<M, K>, Unbegun<K>>
         requires { M.world machine ≡ M.first }
-        ensures begins { IfOk result (λ book. Begins M.world (meaning M.next M.spelled M.first) M.number K.tells K.log K.may_leave (K.log keeper) book) }
-        ensures kept { IfOk result (λ book. IsTrue (K.tells book.keeper) → IsOnlyRead (K.log keeper) (K.log book.keeper) (K.may_leave keeper) (K.may_leave book.keeper)) }
-        ensures kept_err { IfErr result (λ u. IsTrue (K.tells u.keeper) → IsOnlyRead (K.log keeper) (K.log u.keeper) (K.may_leave keeper) (K.may_leave u.keeper)) }
-        ensures bad { IfErr result (λ u. (seq : ℕ) → u.error ≡ CallError.BadRow seq → IsTrue (K.tells u.keeper) → HasBadRow M.next M.spelled M.first (K.log keeper) seq) }
+        ensures begins { IfOk result (BeginsFrom M.Machine K.Keeper (K.log keeper)) }
+        ensures kept { IfOk result (λ book. OnlyRead K.Keeper keeper book.keeper) }
+        ensures kept_err { IfErr result (λ u. OnlyRead K.Keeper keeper u.keeper) }
+        ensures bad { IfErr result (λ u. (seq : ℕ) → u.error ≡ CallError.BadRow seq → FirstBadRow M.Machine K.Keeper keeper u.keeper seq) }
+        ensures no_meaning { IfErr result (λ u. (seq : ℕ) → u.error ≡ CallError.BadRow seq → MeantNothing M.Machine K.Keeper keeper u.keeper) }
         ensures failed { IfErr result (λ u. u.error ≡ CallError.StoreFault → Rose (K.faults keeper) (K.faults u.keeper)) }
         ensures later { MatchResult result (λ book. K.faults keeper ≤ K.faults book.keeper) (λ u. K.faults keeper ≤ K.faults u.keeper) }
-        ensures told { MatchResult result (λ book. IsTrue (K.tells book.keeper) → IsTrue (K.tells keeper)) (λ u. IsTrue (K.tells u.keeper) → IsTrue (K.tells keeper)) }
+        ensures still_known { MatchResult result (λ book. StaysKnown K.Keeper keeper book.keeper) (λ u. StaysKnown K.Keeper keeper u.keeper) }
     {
         match replay(alloc, &mut machine, &mut keeper) {
             Ok(()) => {
@@ -94,24 +103,20 @@ impl<M: Machine, K: Keeper> Book<M, K> {
         }
     }
 
-    /// Judges a command given at a moment, in milliseconds since 1970, records its entry, and answers. Where the
-    /// book is in doubt it first reads all rows into a fresh machine. After an error the book is in doubt: the
-    /// entry of this call, if it had one, may be in the log.
+    /// Judges a command given at a moment, in milliseconds since 1970, records its entry, and answers. A book in
+    /// doubt first reads all rows into a fresh machine. After an error the book is in doubt: the entry of this
+    /// call, if it had one, may be in the log.
     pub fn call(&mut self, now: u64, command: &M::Command) -> Result<Answer<M::Reply>, CallError>
-        requires { HoldsSome M.world (meaning M.next M.spelled M.first) M.number K.tells K.log K.may_leave self.old }
-        ensures holds { HoldsSome M.world (meaning M.next M.spelled M.first) M.number K.tells K.log K.may_leave self.new }
+        requires { MeansSome M.Machine K.Keeper self.old }
+        ensures goes { GoesOn M.Machine K.Keeper self.old self.new }
         ensures shown { is_some self.new.machine ≡ is_ok result }
-        ensures answered { IfOk result (λ a. (w : M.World) (more : Option M.World) → Stands M.world (meaning M.next M.spelled M.first) M.number K.tells K.log K.may_leave self.old w more
-            → IsAnswered M.next M.number (K.tells self.new.keeper) (is_some self.old.machine) w more (λ from. M.reply from now command.now) (λ from. M.entry_of from now command.now)
-            (Stands M.world (meaning M.next M.spelled M.first) M.number K.tells K.log K.may_leave self.new) a) }
-        ensures refused { OnErr result ((w : M.World) (more : Option M.World) → Stands M.world (meaning M.next M.spelled M.first) M.number K.tells K.log K.may_leave self.old w more
-            → IsRefused M.next (K.tells self.new.keeper) (is_some self.old.machine) w more (λ from. M.entry_of from now command.now)
-            (Stands M.world (meaning M.next M.spelled M.first) M.number K.tells K.log K.may_leave self.new)) }
-        ensures no_bad_row { IfErr result (λ e. (seq : ℕ) → e ≡ CallError.BadRow seq → IsTrue (K.tells self.new.keeper) → ⊥) }
+        ensures answered { IfOk result (Answers M.Machine K.Keeper self.old self.new now command.now) }
+        ensures refused { OnErr result (Refuses M.Machine K.Keeper self.old self.new now command.now) }
+        ensures no_bad_row { IfErr result (λ e. (seq : ℕ) → e ≡ CallError.BadRow seq → IsTrue (K.known self.new.keeper) → ⊥) }
+        ensures bad { IfErr result (λ e. (seq : ℕ) → e ≡ CallError.BadRow seq → FirstBadRow M.Machine K.Keeper self.old.keeper self.new.keeper seq) }
         ensures bad_in_doubt { IfErr result (λ e. (seq : ℕ) → e ≡ CallError.BadRow seq → self.old.machine ≡ None) }
-        ensures unread { IsTrue (K.tells self.new.keeper) → K.log self.old.keeper ≡ None → K.log self.new.keeper ≡ None }
-        ensures unanswered { IfOk result (λ a. IsTrue (K.tells self.new.keeper) → K.log self.old.keeper ≡ None → (a.recorded ≡ false) × IsSome self.old.machine) }
-        ensures told { IsTrue (K.tells self.new.keeper) → IsTrue (K.tells self.old.keeper) }
+        ensures unread { StaysUnread K.Keeper self.old.keeper self.new.keeper }
+        ensures unanswered { IfOk result (λ a. IsTrue (K.known self.new.keeper) → K.log self.old.keeper ≡ None → (a.recorded ≡ false) × IsSome self.old.machine) }
         ensures cause { HasCause (K.faults self.old.keeper) (K.faults self.new.keeper) result }
     {
         match self.present() {
@@ -120,14 +125,15 @@ impl<M: Machine, K: Keeper> Book<M, K> {
         }
     }
 
-    /// How many entries the book holds. One that is in doubt isn't counted.
+    /// Returns how many entries the book counts, at most 2^50. An entry in doubt isn't counted.
     pub fn place(&self) -> u64
-        ensures { result ≡ self.now.place }
+        ensures place { result ≡ self.now.place }
+        ensures most { result ≤ 2 ^ 50 }
     {
         self.place
     }
 
-    /// The machine, or `None` where the book is in doubt: after a call's error, until the next answer.
+    /// Returns the machine, or `None` if the book is in doubt: from an error of `call` to its next answer.
     pub fn machine(&self) -> Option<&M>
         ensures { option_copied result ≡ self.now.machine }
     {
@@ -147,20 +153,16 @@ impl<M: Machine, K: Keeper> Book<M, K> {
         keeper
     }
 
-    /// Takes the machine out. Where it is missing, reads all rows into a fresh one.
+    /// Takes the machine out. If it is missing, reads all rows into a fresh one.
     fn present(&mut self) -> Result<M, CallError>
         ensures gone { self.new.machine ≡ None }
-        ensures found { IfOk result (λ m. (w : M.World) (more : Option M.World) → Stands M.world (meaning M.next M.spelled M.first) M.number K.tells K.log K.may_leave self.old w more
-            → WasJudgedIn (K.tells self.new.keeper) (is_some self.old.machine) w more (M.world m)
-            × Stands M.world (meaning M.next M.spelled M.first) M.number K.tells K.log K.may_leave self.new (M.world m) None) }
-        ensures refused { OnErr result ((w : M.World) (more : Option M.World) → Stands M.world (meaning M.next M.spelled M.first) M.number K.tells K.log K.may_leave self.old w more
-            → Stands M.world (meaning M.next M.spelled M.first) M.number K.tells K.log K.may_leave self.new w more) }
-        ensures no_bad_row { IfErr result (λ e. (seq : ℕ) → e ≡ CallError.BadRow seq → IsTrue (K.tells self.new.keeper)
-            → (w : M.World) (more : Option M.World) → Stands M.world (meaning M.next M.spelled M.first) M.number K.tells K.log K.may_leave self.old w more → ⊥) }
+        ensures found { IfOk result (IsPresent M.Machine K.Keeper self.old self.new) }
+        ensures refused { OnErr result (FromWhereItStood M.Machine K.Keeper self.old (BookMeans M.Machine K.Keeper self.new)) }
+        ensures bad { IfErr result (λ e. (seq : ℕ) → e ≡ CallError.BadRow seq → FirstBadRow M.Machine K.Keeper self.old.keeper self.new.keeper seq) }
         ensures bad_in_doubt { IfErr result (λ e. (seq : ℕ) → e ≡ CallError.BadRow seq → self.old.machine ≡ None) }
-        ensures unread { IsTrue (K.tells self.new.keeper) → K.log self.old.keeper ≡ None → K.log self.new.keeper ≡ None }
-        ensures unanswered { IfOk result (λ m. IsTrue (K.tells self.new.keeper) → K.log self.old.keeper ≡ None → IsSome self.old.machine) }
-        ensures told { IsTrue (K.tells self.new.keeper) → IsTrue (K.tells self.old.keeper) }
+        ensures unread { StaysUnread K.Keeper self.old.keeper self.new.keeper }
+        ensures unanswered { IfOk result (λ m. IsTrue (K.known self.new.keeper) → K.log self.old.keeper ≡ None → IsSome self.old.machine) }
+        ensures still_known { StaysKnown K.Keeper self.old.keeper self.new.keeper }
         ensures cause { HasCause (K.faults self.old.keeper) (K.faults self.new.keeper) result }
     {
         match self.machine.take() {
@@ -185,17 +187,15 @@ impl<M: Machine, K: Keeper> Book<M, K> {
         now: u64,
         command: &M::Command,
     ) -> Result<Answer<M::Reply>, CallError>
-        requires stands { Stands M.world (meaning M.next M.spelled M.first) M.number K.tells K.log K.may_leave self.old (M.world machine) None }
+        requires stands { BookMeans M.Machine K.Keeper self.old (M.world machine) None }
         requires gone { self.old.machine ≡ None }
         ensures shown { is_some self.new.machine ≡ is_ok result }
-        ensures answered { IfOk result (λ a. IsAnswered M.next M.number true true (M.world machine) None (λ w. M.reply w now command.now) (λ w. M.entry_of w now command.now)
-            (Stands M.world (meaning M.next M.spelled M.first) M.number K.tells K.log K.may_leave self.new) a) }
-        ensures refused { OnErr result (Stands M.world (meaning M.next M.spelled M.first) M.number K.tells K.log K.may_leave self.new
-            (M.world machine) (option_and_then (λ e. M.next (M.world machine) e) (M.entry_of (M.world machine) now command.now))) }
+        ensures answered { IfOk result (AnswersIn M.Machine K.Keeper true true (M.world machine) None self.new now command.now) }
+        ensures refused { OnErr result (MayHaveRecorded M.Machine K.Keeper self.new (M.world machine) now command.now) }
         ensures no_row { IfErr result (λ e. (seq : ℕ) → e ≡ CallError.BadRow seq → ⊥) }
-        ensures unread { IsTrue (K.tells self.new.keeper) → K.log self.old.keeper ≡ None → K.log self.new.keeper ≡ None }
-        ensures unanswered { IfOk result (λ a. IsTrue (K.tells self.new.keeper) → K.log self.old.keeper ≡ None → a.recorded ≡ false) }
-        ensures told { IsTrue (K.tells self.new.keeper) → IsTrue (K.tells self.old.keeper) }
+        ensures unread { StaysUnread K.Keeper self.old.keeper self.new.keeper }
+        ensures unanswered { IfOk result (λ a. IsTrue (K.known self.new.keeper) → K.log self.old.keeper ≡ None → a.recorded ≡ false) }
+        ensures still_known { StaysKnown K.Keeper self.old.keeper self.new.keeper }
         ensures cause { HasCause (K.faults self.old.keeper) (K.faults self.new.keeper) result }
     {
         let Verdict { reply, entry } = machine.judge(self.alloc, now, command)?;
