@@ -1,12 +1,12 @@
 -- What is built so far: of every other call, and of every other setting, the name of what is missing.
-use Rattle.std.specs.Prelude.{◌≡◌, ℕ, Bool, not, nat_eq, List, [], ◌∷◌, Option, Some, None, is_some, codes, if◌then◌else◌}
-use Rattle.ps_base.specs.declared.reason.Reason.{Reason}
+use Rattle.std.specs.Prelude.{ℕ, Bool, not, nat_eq, List, [], ◌∷◌, Option, Some, None, is_some, codes, if◌then◌else◌}
 use Rattle.ps_message.specs.Lists.{is_empty}
 use Rattle.ps_config.specs.declared.config.TopicConfig.{TopicConfig}
 use Rattle.ps_config.specs.declared.config.SubConfig.{SubConfig}
 use Rattle.ps_model.specs.declared.command.Command.{Command}
-use Rattle.ps_model.specs.declared.command.Command.TheVariants.{Tick, CreateTopic, UpdateTopic, GetTopic, DeleteTopic, ListTopics, ListTopicSubscriptions, ListTopicSnapshots, Publish, CreateSubscription, UpdateSubscription, GetSubscription, DeleteSubscription, ListSubscriptions, Pull, Acknowledge, ModifyAckDeadline, SeekTime, SeekSnapshot, Detach, CreateSnapshot, UpdateSnapshot, GetSnapshot, DeleteSnapshot, ListSnapshots}
+use Rattle.ps_model.specs.declared.command.Command.TheVariants.{Tick, CreateTopic, Publish, CreateSubscription, Pull, Acknowledge}
 use Rattle.ps_config.specs.Masks.{default_sub}
+use Rattle.ps_config.specs.Numbers.{default_expiration}
 
 -- the first name whose test holds
 abbrev pub first_name : List (Bool × List ℕ) → Option (List ℕ)
@@ -31,7 +31,7 @@ unbuilt_sub_setting c = first_name (
     ∷ (is_some c.dead_letter, codes "deadLetterPolicy")
     ∷ (c.exactly_once, codes "enableExactlyOnceDelivery")
     ∷ (c.ordering, codes "enableMessageOrdering")
-    ∷ (is_other 2678400000 c.expiration, codes "expirationPolicy")
+    ∷ (is_other default_expiration c.expiration, codes "expirationPolicy")
     ∷ (not (is_empty c.filter), codes "filter")
     ∷ (not (is_empty c.labels), codes "labels")
     ∷ (not (nat_eq c.retention default_sub.retention), codes "messageRetentionDuration")

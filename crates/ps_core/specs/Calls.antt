@@ -3,6 +3,8 @@ use Rattle.std.specs.Prelude.{◌≡◌, MatchOption, IfSome, ℕ, Bool, true, f
 use Rattle.ps_base.specs.declared.reason.Reason.{Reason}
 use Rattle.ps_base.specs.declared.refusal.Refusal.{Refusal}
 use Rattle.ps_base.specs.declared.refusal.Refusal.TheVariants.{Unimplemented, InvalidArgument, Exhausted}
+use Rattle.ps_config.specs.Numbers.{least_ack_seconds, most_ack_seconds}
+use Rattle.ps_message.specs.Limits.{most_messages}
 use Rattle.ps_entry.specs.Commands.{has_spelling}
 use Rattle.ps_model.specs.declared.command.Command.{Command}
 use Rattle.ps_model.specs.declared.command.Command.TheVariants.{Tick, Pull}
@@ -17,12 +19,12 @@ use Rattle.ps_model.specs.Step as rules
 use Rattle.ps_core.specs.Built.{unbuilt}
 
 abbrev pub reply_built : World → ℕ → Command → Option (List ℕ) → Reply
-reply_built w at c None = rules.reply w at c
-reply_built w at c (Some missing) = Refused (Unimplemented missing)
+reply_built w now c None = rules.reply w now c
+reply_built w now c (Some missing) = Refused (Unimplemented missing)
 
 -- what a call is told
 abbrev pub reply : World → ℕ → Command → Reply
-reply w at c = reply_built w at c (unbuilt c)
+reply w now c = reply_built w now c (unbuilt c)
 
 -- what isn't built leaves what the moment brings
 abbrev pub as_built : Command → Option (List ℕ) → Command
@@ -31,16 +33,16 @@ as_built c (Some missing) = Tick
 
 -- what is recorded of a call
 abbrev pub entry_of : World → ℕ → Command → Option Entry
-entry_of w at c = rules.entry_of w at (as_built c (unbuilt c))
+entry_of w now c = rules.entry_of w now (as_built c (unbuilt c))
 
 -- a lease's seconds as they are recorded
 abbrev pub is_lease_normal : Option ℕ → Bool
 is_lease_normal None = true
-is_lease_normal (Some seconds) = nat_le 10 seconds && nat_le seconds 600
+is_lease_normal (Some seconds) = nat_le least_ack_seconds seconds && nat_le seconds most_ack_seconds
 
 -- the form in which a command is recorded
 abbrev pub is_normal : Command → Bool
-is_normal (Pull subscription most budget seconds) = nat_le most 1000 && is_lease_normal seconds
+is_normal (Pull subscription most budget seconds) = nat_le most most_messages && is_lease_normal seconds
 is_normal _ = true
 
 abbrev pub is_tick : Command → Bool
@@ -49,7 +51,7 @@ is_tick _ = false
 
 -- the command changes the settled world and stands in its form, or it is a Tick and settling changes something
 abbrev pub is_step : World → ℕ → Command → Bool
-is_step w t c = if same_world (rules.settled t w) (rules.carried_out w t c) then is_tick c && not (same_world w (rules.settled t w)) else is_normal c
+is_step w at c = if same_world (rules.settled at w) (rules.carried_out w at c) then is_tick c && not (same_world w (rules.settled at w)) else is_normal c
 
 -- an entry is accepted where it is what would be recorded of its own command at its own moment
 abbrev pub is_accepted : World → Entry → Bool
@@ -73,14 +75,14 @@ abbrev pub CanWrite : Entry → Type 0
 CanWrite e = has_spelling e.command ≡ true
 
 -- what settling alone comes to
-pub record IsTicked (w : World) (at : ℕ) (entry : Option Entry) (new : World) : Type 0 where
-  pub entry_is : entry ≡ rules.entry_of w at Tick
+pub record IsTicked (w : World) (now : ℕ) (entry : Option Entry) (new : World) : Type 0 where
+  pub entry_is : entry ≡ rules.entry_of w now Tick
   pub after : MatchOption entry (new ≡ w) (λ e. next w e ≡ Some new)
   pub written : IfSome entry CanWrite
 
 -- what judging a command comes to
-pub record IsJudged (w : World) (at : ℕ) (c : Command) (told : Reply) (entry : Option Entry) (new : World) : Type 0 where
-  pub told_is : told ≡ reply w at c
-  pub entry_is : entry ≡ entry_of w at c
+pub record IsJudged (w : World) (now : ℕ) (c : Command) (told : Reply) (entry : Option Entry) (new : World) : Type 0 where
+  pub told_is : told ≡ reply w now c
+  pub entry_is : entry ≡ entry_of w now c
   pub after : MatchOption entry (new ≡ w) (λ e. next w e ≡ Some new)
   pub written : IfSome entry CanWrite

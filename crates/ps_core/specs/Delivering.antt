@@ -1,5 +1,5 @@
 -- What the core is asked of leases, and what it makes of the messages that go out and of the ids that come back.
-use Rattle.std.specs.Prelude.{ℕ, ◌≤◌, nat_eq, List, Option, Some, None, map, filter}
+use Rattle.std.specs.Prelude.{ℕ, nat_eq, List, None, map, filter}
 use Rattle.ps_base.specs.declared.ack_id.AckId.{AckId}
 use Rattle.ps_model.specs.declared.mark.Handed.{Handed}
 use Rattle.ps_model.specs.declared.mark.Ticket.{Ticket}
@@ -7,11 +7,6 @@ use Rattle.ps_model.specs.declared.reply.ReceivedMessage.{ReceivedMessage}
 use Rattle.ps_model.specs.declared.world.MessageRow.{MessageRow}
 use Rattle.ps_model.specs.Answering.{ticket_of}
 use Rattle.ps_model.specs.Worlds.{message_at}
-
--- at most ten minutes, where it is said
-abbrev pub IsLeaseNormal : Option ℕ → Type 0
-IsLeaseNormal None = Unit {0}
-IsLeaseNormal (Some seconds) = seconds ≤ 600
 
 -- a message that goes out on the subscription of this number, which has no dead-letter policy
 abbrev pub received : ℕ → Handed → MessageRow → ReceivedMessage

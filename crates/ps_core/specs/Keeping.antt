@@ -3,8 +3,8 @@ use Rattle.std.specs.Prelude.{◌≡◌, ◌+◌, ◌<◌, false, ℕ, nat_eq, L
 use Rattle.std.specs.List.{AllByRecursion}
 use Rattle.std.specs.Str.{bytes_eq}
 use Rattle.ps_model.specs.declared.world.TopicRow.{TopicRow}
-use Rattle.ps_core.specs.declared.share.Share.{Share}
-use Rattle.ps_core.specs.declared.tables.Topic.{Topic}
+use Rattle.ps_core.specs.declared.kept_subscription.KeptSubscription.{KeptSubscription}
+use Rattle.ps_core.specs.declared.tables.KeptTopic.{KeptTopic}
 use Rattle.ps_core.specs.declared.tables.Tables.{Tables}
 use Rattle.std.specs.HashMap.{get_by_text}
 use Rattle.ps_core.specs.State.{State}
@@ -12,35 +12,35 @@ use Rattle.ps_core.specs.Steady.{IsSteady}
 use Rattle.ps_core.specs.Effects.{is_any_due}
 
 -- where the subscriptions of a topic stand, counted on from a place
-abbrev pub places_from : ℕ → ℕ → List Share → List ℕ
+abbrev pub places_from : ℕ → ℕ → List KeptSubscription → List ℕ
 places_from place topic [] = []
 places_from place topic (x ∷ xs) = if nat_eq x.topic topic then place ∷ places_from (place + 1) topic xs else places_from (place + 1) topic xs
 
-abbrev pub places_of : ℕ → List Share → List ℕ
-places_of topic shares = places_from 0 topic shares
+abbrev pub places_of : ℕ → List KeptSubscription → List ℕ
+places_of topic subscriptions = places_from 0 topic subscriptions
 
 abbrev pub topic_place : List ℕ → List TopicRow → Option ℕ
 topic_place name topics = position (λ (r : TopicRow). bytes_eq r.name name) topics
 
-abbrev pub share_place : List ℕ → List Share → Option ℕ
-share_place name shares = position (λ (x : Share). bytes_eq x.name name) shares
+abbrev pub subscription_place : List ℕ → List KeptSubscription → Option ℕ
+subscription_place name subscriptions = position (λ (x : KeptSubscription). bytes_eq x.name name) subscriptions
 
-pub record IsKept (s : State) (wake : ℕ) (members : List (List ℕ)) (topic_at share_at : List ℕ → Option ℕ) : Type 0 where
+pub record IsKept (s : State) (next_end : ℕ) (members : List (List ℕ)) (topic_at subscription_at : List ℕ → Option ℕ) : Type 0 where
   pub steady : IsSteady s
   -- names are found where they stand
   pub topic_places : (name : List ℕ) → topic_at name ≡ topic_place name s.topics
-  pub share_places : (name : List ℕ) → share_at name ≡ share_place name s.shares
+  pub subscription_places : (name : List ℕ) → subscription_at name ≡ subscription_place name s.subscriptions
   -- each topic has the places of its subscriptions
-  pub subs : members ≡ map (λ (r : TopicRow). places_of r.number s.shares) s.topics
+  pub subs : members ≡ map (λ (r : TopicRow). places_of r.number s.subscriptions) s.topics
   -- the topic of each was made
-  pub made : AllByRecursion (λ (x : Share). x.topic < s.next_topic) s.shares
+  pub made : AllByRecursion (λ (x : KeptSubscription). x.topic < s.next_topic) s.subscriptions
   -- no lease ends before this moment
-  pub asleep : (t : ℕ) → t < wake → is_any_due t s ≡ false
+  pub none_before : (at : ℕ) → at < next_end → is_any_due at s ≡ false
 
-abbrev pub the_row : Topic → TopicRow
+abbrev pub the_row : KeptTopic → TopicRow
 the_row x = x.row
 
-abbrev pub the_subs : Topic → List ℕ
+abbrev pub the_subs : KeptTopic → List ℕ
 the_subs x = x.subs.items
 
 -- the state that these numbers and tables make
@@ -52,9 +52,9 @@ state_of now count next_topic next_sub next_message tables = record {
   next_sub = next_sub;
   next_message = next_message;
   topics = map the_row tables.topics.items;
-  shares = tables.shares.items;
+  subscriptions = tables.subscriptions.items;
   messages = tables.messages.items;
 }
 
 abbrev pub IsKeptIn : State → ℕ → Tables → Type 0
-IsKeptIn s wake tables = IsKept s wake (map the_subs tables.topics.items) (get_by_text tables.topic_places.places) (get_by_text tables.share_places.places)
+IsKeptIn s next_end tables = IsKept s next_end (map the_subs tables.topics.items) (get_by_text tables.topic_places.places) (get_by_text tables.subscription_places.places)

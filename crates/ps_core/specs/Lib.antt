@@ -11,3 +11,4 @@ pub mod Counts
 pub mod Carrying
 pub mod Delivering
 pub mod Stats
+pub mod TableEdits

@@ -7,7 +7,7 @@ use Rattle.ps_model.specs.declared.world.SubRow.{SubRow}
 use Rattle.ps_model.specs.declared.world.MessageRow.{MessageRow}
 use Rattle.ps_model.specs.declared.world.MarkRow.{MarkRow}
 use Rattle.ps_model.specs.Worlds.{row_of}
-use Rattle.ps_core.specs.declared.share.Share.{Share}
+use Rattle.ps_core.specs.declared.kept_subscription.KeptSubscription.{KeptSubscription}
 
 pub record State : Type 0 where
   pub now : ℕ
@@ -16,21 +16,21 @@ pub record State : Type 0 where
   pub next_sub : ℕ
   pub next_message : ℕ
   pub topics : List TopicRow
-  pub shares : List Share
+  pub subscriptions : List KeptSubscription
   pub messages : List MessageRow
 
-abbrev pub sub_row : Share → SubRow
+abbrev pub sub_row : KeptSubscription → SubRow
 sub_row x = record { number = x.number; name = x.name; topic = x.topic; config = x.sub.config; detached = false; next_lease = x.sub.next_lease }
 
-abbrev pub slots_in : Share → List Slot
+abbrev pub slots_in : KeptSubscription → List Slot
 slots_in x = x.sub.slots
 
-abbrev pub number_of : Share → ℕ
+abbrev pub number_of : KeptSubscription → ℕ
 number_of x = x.number
 
 -- the marks of one subscription behind those of the one before it
-abbrev pub flat_marks : List Share → List MarkRow
-flat_marks shares = flat_map (λ (x : Share). map (row_of x.number) x.sub.slots) shares
+abbrev pub flat_marks : List KeptSubscription → List MarkRow
+flat_marks subscriptions = flat_map (λ (x : KeptSubscription). map (row_of x.number) x.sub.slots) subscriptions
 
 abbrev pub seen : State → World
 seen s = record {
@@ -41,12 +41,12 @@ seen s = record {
   next_snap = 1;
   next_message = s.next_message;
   topics = s.topics;
-  subs = map sub_row s.shares;
+  subs = map sub_row s.subscriptions;
   snaps = [];
   messages = s.messages;
-  marks = flat_marks s.shares;
+  marks = flat_marks s.subscriptions;
 }
 
 -- before the first entry
 abbrev pub empty_state : State
-empty_state = record { now = 0; count = 0; next_topic = 1; next_sub = 1; next_message = 1; topics = []; shares = []; messages = [] }
+empty_state = record { now = 0; count = 0; next_topic = 1; next_sub = 1; next_message = 1; topics = []; subscriptions = []; messages = [] }

@@ -1,5 +1,5 @@
--- The ten numbers that the service is told by. What is proved of a core bounds no sum over its subscriptions, so a sum
--- that is beyond a u64 is told as the greatest one.
+-- The ten numbers of a core. What is proved of a core bounds no sum over its subscriptions, so a sum beyond u64 is shown as
+-- the greatest u64.
 use Rattle.std.specs.Prelude.{ℕ, min, ◌-◌, ◌^◌}
 use Rattle.ps_model.specs.declared.stat.Stat.{Stat}
 use Rattle.ps_model.specs.declared.world.World.{World}
@@ -8,8 +8,8 @@ use Rattle.ps_model.specs.Counting.{stat}
 abbrev pub capped : ℕ → ℕ
 capped n = min n (2 ^ 64 - 1)
 
-abbrev pub told_stat : World → Stat
-told_stat w = record (stat w) {
+abbrev pub stat_of : World → Stat
+stat_of w = record (stat w) {
   backlog = capped (stat w).backlog;
   leased = capped (stat w).leased;
   acknowledged = capped (stat w).acknowledged;

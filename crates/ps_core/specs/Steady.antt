@@ -7,11 +7,12 @@ use Rattle.ps_model.specs.declared.mark.Mark.TheVariants.{Backlog, Leased, Ahead
 use Rattle.ps_model.specs.declared.mark.Slot.{Slot}
 use Rattle.ps_model.specs.declared.world.TopicRow.{TopicRow}
 use Rattle.ps_model.specs.declared.world.MessageRow.{MessageRow}
+use Rattle.ps_message.specs.Limits.{most_messages}
 use Rattle.ps_config.specs.Masks.{default_topic, default_sub}
 use Rattle.ps_model.specs.Sound.{Ordered}
 use Rattle.ps_model.specs.Worlds.{row_of, slot_of}
 use Rattle.ps_sub.specs.Showing.{has}
-use Rattle.ps_core.specs.declared.share.Share.{Share}
+use Rattle.ps_core.specs.declared.kept_subscription.KeptSubscription.{KeptSubscription}
 use Rattle.ps_core.specs.State.{State}
 
 -- the marks that there are so far: nothing is ahead, and nothing goes
@@ -22,22 +23,22 @@ IsPlainMark (Ahead failures) = ⊥
 IsPlainMark (Done cause) = Unit {0}
 IsPlainMark (Gone cause) = ⊥
 
--- the slot is of a message that is there, and tells of it what the message's row does
-pub record IsJoined (s : State) (x : Share) (slot : Slot) : Type 0 where
+-- the slot is of a message that is there, and agrees with the message's row
+pub record IsJoined (s : State) (x : KeptSubscription) (slot : Slot) : Type 0 where
   pub row : slot_of s.messages (row_of x.number slot) ≡ slot
   pub number : slot.item.number < s.next_message
   pub publish : slot.item.publish ≤ s.now
   pub plain : IsPlainMark slot.mark
 
-pub record IsSteadyShare (s : State) (x : Share) : Type 0 where
+pub record IsSteadySubscription (s : State) (x : KeptSubscription) : Type 0 where
   pub settings : x.sub.config ≡ default_sub
-  pub leases : x.sub.next_lease ≤ 1000 * s.count + 1
+  pub leases : x.sub.next_lease ≤ most_messages * s.count + 1
   pub slots : Ordered (λ (a b : Slot). a.item.number < b.item.number) x.sub.slots
   pub joined : AllByRecursion (IsJoined s x) x.sub.slots
 
 -- some subscription has the message
-abbrev pub is_had : List Share → ℕ → Bool
-is_had shares number = list_any (λ (x : Share). has x.sub.slots number) shares
+abbrev pub is_had : List KeptSubscription → ℕ → Bool
+is_had subscriptions number = list_any (λ (x : KeptSubscription). has x.sub.slots number) subscriptions
 
 pub record IsSteady (s : State) : Type 0 where
   pub now : s.now ≤ last_moment
@@ -46,12 +47,12 @@ pub record IsSteady (s : State) : Type 0 where
   pub topics_below : AllByRecursion (λ (r : TopicRow). r.number < s.next_topic) s.topics
   pub topic_settings : AllByRecursion (λ (r : TopicRow). r.config ≡ default_topic) s.topics
   pub topics_few : s.next_topic ≤ s.count + 1
-  pub shares : Ordered (λ (a b : Share). a.number < b.number) s.shares
-  pub shares_below : AllByRecursion (λ (x : Share). x.number < s.next_sub) s.shares
+  pub subscriptions : Ordered (λ (a b : KeptSubscription). a.number < b.number) s.subscriptions
+  pub subscriptions_below : AllByRecursion (λ (x : KeptSubscription). x.number < s.next_sub) s.subscriptions
   pub subs_few : s.next_sub ≤ s.count + 1
-  pub each : AllByRecursion (IsSteadyShare s) s.shares
+  pub each : AllByRecursion (IsSteadySubscription s) s.subscriptions
   pub messages : Ordered (λ (a b : MessageRow). a.number < b.number) s.messages
   pub messages_below : AllByRecursion (λ (m : MessageRow). m.number < s.next_message) s.messages
-  pub messages_few : s.next_message ≤ 1000 * s.count + 1
+  pub messages_few : s.next_message ≤ most_messages * s.count + 1
   -- what is kept is had by some subscription
-  pub wanted : AllByRecursion (λ (m : MessageRow). m.kept ≡ true → is_had s.shares m.number ≡ true) s.messages
+  pub wanted : AllByRecursion (λ (m : MessageRow). m.kept ≡ true → is_had s.subscriptions m.number ≡ true) s.messages

@@ -4,16 +4,12 @@ ghost use Rattle.ps_core.specs.Calls.{is_normal, is_lease_normal, is_tick};
 ghost use Rattle.ps_core.specs.Built.{unbuilt, unbuilt_topic_setting, unbuilt_sub_setting};
 
 use ps_base::{Duplicate, OutOfMemory, Reason};
-use ps_message::check_publish;
+use ps_config::{
+    DEFAULT_ACK_SECONDS, DEFAULT_EXPIRATION, DEFAULT_RETENTION, LEAST_ACK_SECONDS, MOST_ACK_SECONDS,
+};
+use ps_message::{MOST_MESSAGES, check_publish};
 use ps_model::{Command, SubConfig, TopicConfig};
 use std::alloc::Global;
-
-/// The settings of a new subscription, in milliseconds but for the first.
-const ACK_SECONDS: u32 = 10;
-
-const RETENTION: u64 = 604_800_000;
-
-const EXPIRATION: u64 = 2_678_400_000;
 
 fn unbuilt_topic_setting(config: &TopicConfig) -> Option<&'static str>
     ensures name { MatchOption result (unbuilt_topic_setting config.now ≡ None) (λ name. unbuilt_topic_setting config.now ≡ Some name.now) }
@@ -30,7 +26,7 @@ fn unbuilt_topic_setting(config: &TopicConfig) -> Option<&'static str>
 fn unbuilt_sub_setting(config: &SubConfig) -> Option<&'static str>
     ensures name { MatchOption result (unbuilt_sub_setting config.now ≡ None) (λ name. unbuilt_sub_setting config.now ≡ Some name.now) }
 {
-    if config.ack_seconds != ACK_SECONDS {
+    if config.ack_seconds != DEFAULT_ACK_SECONDS {
         Some("ackDeadlineSeconds")
     } else if config.dead_letter.is_some() {
         Some("deadLetterPolicy")
@@ -38,13 +34,13 @@ fn unbuilt_sub_setting(config: &SubConfig) -> Option<&'static str>
         Some("enableExactlyOnceDelivery")
     } else if config.ordering {
         Some("enableMessageOrdering")
-    } else if config.expiration != Some(EXPIRATION) {
+    } else if config.expiration != Some(DEFAULT_EXPIRATION) {
         Some("expirationPolicy")
     } else if config.filter.len() != 0 {
         Some("filter")
     } else if !config.labels.as_slice().is_empty() {
         Some("labels")
-    } else if config.retention != RETENTION {
+    } else if config.retention != DEFAULT_RETENTION {
         Some("messageRetentionDuration")
     } else if config.retain_acked {
         Some("retainAckedMessages")
@@ -55,7 +51,8 @@ fn unbuilt_sub_setting(config: &SubConfig) -> Option<&'static str>
     }
 }
 
-/// What a command asks for that isn't built: the name of a setting, or `route` of a call.
+/// What a command asks for that isn't built yet: the name of a setting, or `route` for the whole call. Nothing else
+/// decides this in the core.
 pub fn unbuilt(command: &Command) -> Option<&'static str>
     ensures { MatchOption result (unbuilt command.now ≡ None) (λ name. unbuilt command.now ≡ Some name.now) }
 {
@@ -70,7 +67,7 @@ pub fn unbuilt(command: &Command) -> Option<&'static str>
     }
 }
 
-/// The first check that an argument of the command breaks.
+/// The first check that an argument of the command fails.
 pub fn argument_fault(command: &Command) -> Option<Reason>
     requires { unbuilt command.now ≡ None }
     ensures { result ≡ argument_fault (as_read command.now) }
@@ -86,11 +83,11 @@ pub fn argument_fault(command: &Command) -> Option<Reason>
     }
 }
 
-/// The form in which a command is recorded: a pull of at most 1,000 messages and 10 to 600 seconds. Only memory
-/// can be wanting.
+/// The form in which a command is carried out and recorded. A pull asks for at most 1,000 messages, and for 10 to 600
+/// seconds.
 pub fn as_read(alloc: Global, command: &Command) -> Result<Command, OutOfMemory>
     requires { unbuilt command.now ≡ None }
-    ensures { IfOk result (λ made. made ≡ as_read command.now) }
+    ensures { IfOk result (λ read. read ≡ as_read command.now) }
 {
     match command {
         Command::Pull {
@@ -100,7 +97,7 @@ pub fn as_read(alloc: Global, command: &Command) -> Result<Command, OutOfMemory>
             seconds,
         } => Ok(Command::Pull {
             subscription: subscription.copy(alloc)?,
-            max: (*max).min(1000),
+            max: (*max).min(MOST_MESSAGES),
             budget: *budget,
             seconds: lease_seconds(*seconds),
         }),
@@ -108,22 +105,22 @@ pub fn as_read(alloc: Global, command: &Command) -> Result<Command, OutOfMemory>
     }
 }
 
-/// For how long a lease is asked, from 10 to 600 seconds.
-pub fn lease_seconds(seconds: Option<u32>) -> Option<u32>
+/// The seconds asked for a lease, from 10 to 600.
+fn lease_seconds(seconds: Option<u32>) -> Option<u32>
     ensures { result ≡ option_map lease_seconds seconds }
 {
     match seconds {
-        Some(seconds) => Some(seconds.min(600).max(10)),
+        Some(seconds) => Some(seconds.min(MOST_ACK_SECONDS).max(LEAST_ACK_SECONDS)),
         None => None,
     }
 }
 
-/// Whether a command is in the form in which it is recorded.
+/// Whether a command is already in the form in which it is recorded.
 pub fn is_normal(command: &Command) -> bool
     ensures { result ≡ is_normal command.now }
 {
     match command {
-        Command::Pull { max, seconds, .. } => *max <= 1000 && is_lease_normal(*seconds),
+        Command::Pull { max, seconds, .. } => *max <= MOST_MESSAGES && is_lease_normal(*seconds),
         _ => true,
     }
 }
@@ -132,12 +129,12 @@ fn is_lease_normal(seconds: Option<u32>) -> bool
     ensures { result ≡ is_lease_normal seconds }
 {
     match seconds {
-        Some(seconds) => 10 <= seconds && seconds <= 600,
+        Some(seconds) => LEAST_ACK_SECONDS <= seconds && seconds <= MOST_ACK_SECONDS,
         None => true,
     }
 }
 
-/// Whether a command asks for nothing but what is due.
+/// Whether a command only asks to settle what is due.
 pub fn is_tick(command: &Command) -> bool
     ensures { result ≡ is_tick command.now }
 {

@@ -1,19 +1,19 @@
 ghost use Rattle.ps_core.specs.Acceptance.{AcceptsWhatIsRecorded, HistoriesLead};
 ghost use Rattle.ps_core.specs.Counts.{CountsEntries};
 
-/// Each accepted entry is counted.
+/// Each accepted entry adds one to the count.
 pub fn law_count()
     ensures { CountsEntries }
 {}
 
-/// Of what is built, an entry is accepted exactly where it is what would be recorded of its own command at its own
-/// moment.
+/// An entry of a command that is built is accepted if and only if it is the entry that a call with its command and
+/// moment would record.
 pub fn law_accepted()
     ensures { AcceptsWhatIsRecorded }
 {}
 
-/// Entries lead to a world one by one exactly where they are a history of what is built, and it is the world after
-/// them.
+/// Entries lead to a world one by one if and only if they are a history of commands that are built, and it is the
+/// world after that history.
 pub fn law_history()
     ensures { HistoriesLead }
 {}

@@ -1,20 +1,16 @@
-//! The service as a machine for the book.
+//! The message service as a machine: a book keeps its log, and the machine answers and makes the steps.
 #![tactic(auto)]
 
 mod built;
-#[cfg(test)]
-mod core_tests;
 mod entering;
+mod kept_subscription;
 mod laws;
 mod machine;
 mod messages;
-mod places;
+mod name_index;
 mod service;
-mod share;
-#[cfg(test)]
-mod stat_tests;
 mod tables;
 
+pub use kept_subscription::KeptSubscription;
 pub use laws::{law_accepted, law_count, law_history};
 pub use service::Core;
-pub use share::Share;

@@ -4,7 +4,7 @@ ghost use Rattle.ps_model.specs.Worlds.{message_numbered};
 
 use ps_model::MessageRow;
 
-/// The message of this number, found by halving.
+/// The message with this number, by binary search.
 pub fn message_numbered(messages: &[MessageRow], number: u64) -> Option<&MessageRow>
     requires { Ordered (λ a b. a.number < b.number) messages.now }
     ensures { MatchOption result (message_numbered messages.now number ≡ None) (λ row. message_numbered messages.now number ≡ Some row.now) }

@@ -1,15 +1,14 @@
-ghost use Rattle.std.specs.Prelude.{◌≡◌, ◌+◌, ◌^◌, ◌<◌, ◌≤◌};
-ghost use Rattle.ps_base.specs.Moments.{last_moment};
+ghost use Rattle.std.specs.Prelude.{◌≡◌, ◌^◌, ◌≤◌};
 ghost use Rattle.ps_model.specs.Commands.{is_full};
 ghost use Rattle.ps_model.specs.Step as rules;
 
 mod applying;
-mod carried;
 mod counting;
 mod creating;
 mod delivering;
 mod due;
 mod judging;
+mod outcome;
 mod publishing;
 mod settling;
 
@@ -18,10 +17,10 @@ use ps_base::Moment;
 use std::alloc::Global;
 use std::marker::Model;
 
-/// As many entries as the record can number.
+/// How many entries the log can number.
 const MOST_ENTRIES: u64 = 1 << 50;
 
-/// The service's whole state, held for the next call. After want of memory a core is spent.
+/// The whole state of the service between two calls. After `OutOfMemory`, drop the core: its state is unspecified.
 #[derive(Drop)]
 pub struct Core {
     /// The moment of the last entry, in milliseconds since 1970.
@@ -30,8 +29,8 @@ pub struct Core {
     next_topic: u64,
     next_sub: u64,
     next_message: u64,
-    /// No lease ends before this moment.
-    wake: u64,
+    /// No lease ends before this moment, so settling before it has nothing to do.
+    next_end: u64,
     tables: Tables,
 }
 
@@ -43,15 +42,16 @@ impl Model for Core {
 
     ghost view = { λ it. state_of it.clock it.count it.next_topic it.next_sub it.next_message it.tables };
 
-    ghost invariant = { λ it. IsKeptIn (state_of it.clock it.count it.next_topic it.next_sub it.next_message it.tables) it.wake it.tables };
+    ghost invariant = { λ it. IsKeptIn (state_of it.clock it.count it.next_topic it.next_sub it.next_message it.tables) it.next_end it.tables };
 }
 
 impl Core {
     ghost use Rattle.ps_core.specs.State.{seen, empty_state};
     ghost use Rattle.ps_core.specs.Steady.{IsSteady};
+    ghost use Rattle.ps_core.specs.Carrying.{CanRecord};
     ghost use Rattle.ps_core.specs.Effects.{recorded_at};
 
-    /// A core before its first entry, which takes no memory.
+    /// A core before its first entry. Allocates nothing.
     pub fn new(alloc: Global) -> Core
         ensures { result ≡ empty_state }
     {
@@ -61,7 +61,7 @@ impl Core {
             next_topic: 1,
             next_sub: 1,
             next_message: 1,
-            wake: 0,
+            next_end: 0,
             tables: Tables::new(alloc),
         }
     }
@@ -74,31 +74,28 @@ impl Core {
         self.count
     }
 
-    /// The moment of a call, in milliseconds since 1970: never before the last entry.
-    fn moment(&self, now: u64) -> u64
+    /// The moment of a call that comes `now` milliseconds after 1970 began. It is never before the last entry.
+    fn moment(&self, now: u64) -> Moment
         ensures value { result ≡ rules.moment (seen self.now) now }
-        ensures within { result ≤ last_moment }
         ensures later { self.now.now ≤ result }
         ensures steady { IsSteady self.now }
     {
-        Moment::of(now.max(self.clock)).milliseconds()
+        Moment::of(now.max(self.clock))
     }
 
-    /// Whether the record has as many entries as it can number.
+    /// Whether the log has as many entries as it can number.
     fn is_full(&self) -> bool
         ensures { result ≡ is_full (seen self.now) }
     {
         self.count == MOST_ENTRIES
     }
 
-    /// Counts one entry more, of this moment.
-    fn record(&mut self, t: u64)
-        requires room { self.old.count < 2 ^ 50 }
-        requires later { self.old.now ≤ t }
-        requires within { t ≤ last_moment }
-        ensures { self.new ≡ recorded_at t self.old }
+    /// Counts one more entry, at this moment.
+    fn record(&mut self, at: Moment)
+        requires can { CanRecord at self.old }
+        ensures { self.new ≡ recorded_at at self.old }
     {
-        self.clock = t;
+        self.clock = at.milliseconds();
         self.count += 1;
     }
 }

@@ -5,26 +5,26 @@ ghost use Rattle.ps_model.specs.Slots.{is_backlog, is_leased};
 ghost use Rattle.ps_core.specs.State.{flat_marks};
 ghost use Rattle.ps_core.specs.Stats.{capped};
 
+use crate::kept_subscription::KeptSubscription;
 use crate::service::Core;
-use crate::share::Share;
 use ps_model::{MessageRow, Stat};
 use ps_sub::SubCounts;
 
 impl Core {
     ghost use Rattle.ps_core.specs.State.{seen};
-    ghost use Rattle.ps_core.specs.Stats.{told_stat};
+    ghost use Rattle.ps_core.specs.Stats.{stat_of};
 
-    /// The ten numbers that the service is told by, of the world as it stands: nothing settles. A sum that is
-    /// beyond u64 is told as the greatest u64. Takes no memory.
+    /// Ten numbers that describe the world as it is, before anything settles. A sum above the greatest u64 is given as
+    /// that. Allocates nothing.
     pub fn stat(&self) -> Stat
-        ensures { result ≡ told_stat (seen self.now) }
+        ensures { result ≡ stat_of (seen self.now) }
     {
-        let marks = marks_of_all(self.tables.shares.as_slice());
+        let marks = marks_of_all(self.tables.subscriptions.as_slice());
         Stat {
             entries: self.count,
             now: self.clock,
             topics: self.tables.topics.len() as u64,
-            subscriptions: self.tables.shares.len() as u64,
+            subscriptions: self.tables.subscriptions.len() as u64,
             snapshots: 0,
             messages: kept_messages(self.tables.messages.as_slice()),
             backlog: marks.backlog,
@@ -35,7 +35,7 @@ impl Core {
     }
 }
 
-/// How many messages something still wants.
+/// How many messages are still kept.
 fn kept_messages(messages: &[MessageRow]) -> u64
     ensures { result ≡ tally (λ r. r.kept) messages.now }
 {
@@ -48,12 +48,12 @@ fn kept_messages(messages: &[MessageRow]) -> u64
     kept
 }
 
-/// How many marks of all subscriptions stand where.
-fn marks_of_all(shares: &[Share]) -> SubCounts
-    ensures backlog { result.backlog ≡ capped (tally (λ r. is_backlog r.mark) (flat_marks shares.now)) }
-    ensures leased { result.leased ≡ capped (tally (λ r. is_leased r.mark) (flat_marks shares.now)) }
-    ensures acknowledged { result.acknowledged ≡ capped (tally (λ r. is_acknowledged r.mark) (flat_marks shares.now)) }
-    ensures dead { result.dead ≡ capped (tally (λ r. is_dead_lettered r.mark) (flat_marks shares.now)) }
+/// How many marks there are of each kind, over all subscriptions.
+fn marks_of_all(subscriptions: &[KeptSubscription]) -> SubCounts
+    ensures backlog { result.backlog ≡ capped (tally (λ r. is_backlog r.mark) (flat_marks subscriptions.now)) }
+    ensures leased { result.leased ≡ capped (tally (λ r. is_leased r.mark) (flat_marks subscriptions.now)) }
+    ensures acknowledged { result.acknowledged ≡ capped (tally (λ r. is_acknowledged r.mark) (flat_marks subscriptions.now)) }
+    ensures dead { result.dead ≡ capped (tally (λ r. is_dead_lettered r.mark) (flat_marks subscriptions.now)) }
 {
     let mut all = SubCounts {
         backlog: 0,
@@ -61,13 +61,13 @@ fn marks_of_all(shares: &[Share]) -> SubCounts
         acknowledged: 0,
         dead: 0,
     };
-    for share in shares {
-        all = both(all, share.sub.counts());
+    for subscription in subscriptions {
+        all = both(all, subscription.sub.counts());
     }
     all
 }
 
-/// What was counted in two places.
+/// The sum of two counts.
 fn both(a: SubCounts, b: SubCounts) -> SubCounts
     ensures backlog { result.backlog ≡ capped (a.backlog + b.backlog) }
     ensures leased { result.leased ≡ capped (a.leased + b.leased) }

@@ -1,36 +1,33 @@
 ghost use Rattle.std.specs.Prelude.{◌≡◌, ◌≤◌, ◌<◌, ◌^◌, None, IfOk};
-ghost use Rattle.ps_base.specs.Moments.{last_moment};
 ghost use Rattle.ps_model.specs.declared.command.Command.TheVariants.{CreateTopic, CreateSubscription};
 ghost use Rattle.ps_core.specs.Built.{unbuilt_topic_setting, unbuilt_sub_setting};
 
 use crate::service::Core;
-use crate::service::carried::Carried;
+use crate::service::outcome::Outcome;
 use crate::tables::Tables;
-use ps_base::{Duplicate, OutOfMemory, Refusal, Text};
+use ps_base::{Duplicate, Moment, OutOfMemory, Refusal, Text};
 use ps_model::{Reply, SubConfig, SubShown, TopicConfig, TopicRow, TopicShown};
 use ps_names::{SubName, TopicName};
 use std::alloc::Global;
 
 impl Core {
-    ghost use Rattle.ps_core.specs.Carrying.{IsCarried};
+    ghost use Rattle.ps_core.specs.Carrying.{CanRecord, IsCarried};
 
     /// Creates a topic (API reference, Publisher.CreateTopic).
     pub(super) fn create_topic(
         &mut self,
         alloc: Global,
-        t: u64,
+        at: Moment,
         name: &TopicName,
         config: &TopicConfig,
-    ) -> Result<Carried, OutOfMemory>
-        requires room { self.old.count < 2 ^ 50 }
-        requires later { self.old.now ≤ t }
-        requires within { t ≤ last_moment }
+    ) -> Result<Outcome, OutOfMemory>
+        requires can { CanRecord at self.old }
         requires built { unbuilt_topic_setting config.now ≡ None }
-        ensures { IfOk result (λ made. IsCarried t (CreateTopic name.now config.now) self.old self.new made.reply made.changed) }
+        ensures { IfOk result (λ outcome. IsCarried at (CreateTopic name.now config.now) self.old self.new outcome.reply outcome.changed) }
     {
         let shown = Text::from_str(alloc, name.text())?;
         if self.tables.topic_places.find(name.text()).is_some() {
-            return Ok(Carried {
+            return Ok(Outcome {
                 reply: Reply::Refused(Refusal::AlreadyExists(shown)),
                 changed: false,
             });
@@ -42,13 +39,13 @@ impl Core {
             config: config.copy(alloc)?,
         };
         // Counted first: there are never more topics than entries.
-        self.record(t);
+        self.record(at);
         if let Err(error) = self.tables.add_topic(alloc, row) {
             self.tables = Tables::new(alloc);
             return Err(error);
         }
         self.next_topic += 1;
-        Ok(Carried {
+        Ok(Outcome {
             reply: Reply::Topic(TopicShown {
                 name: shown,
                 config,
@@ -57,27 +54,26 @@ impl Core {
         })
     }
 
-    /// Creates a subscription with the messages to come (API reference, Subscriber.CreateSubscription).
+    /// Creates a subscription, which gets the messages published from now on (API reference,
+    /// Subscriber.CreateSubscription).
     pub(super) fn create_subscription(
         &mut self,
         alloc: Global,
-        t: u64,
+        at: Moment,
         name: &SubName,
         topic: &TopicName,
         config: &SubConfig,
-    ) -> Result<Carried, OutOfMemory>
-        requires room { self.old.count < 2 ^ 50 }
-        requires later { self.old.now ≤ t }
-        requires within { t ≤ last_moment }
+    ) -> Result<Outcome, OutOfMemory>
+        requires can { CanRecord at self.old }
         requires built { unbuilt_sub_setting config.now ≡ None }
-        ensures { IfOk result (λ made. IsCarried t (CreateSubscription name.now topic.now config.now) self.old self.new made.reply made.changed) }
+        ensures { IfOk result (λ outcome. IsCarried at (CreateSubscription name.now topic.now config.now) self.old self.new outcome.reply outcome.changed) }
     {
         let Some(place) = self.tables.topic_places.find(topic.text()) else {
-            return Carried::missing(alloc, topic.text());
+            return Outcome::missing(alloc, topic.text());
         };
         let shown = Text::from_str(alloc, name.text())?;
-        if self.tables.share_places.find(name.text()).is_some() {
-            return Ok(Carried {
+        if self.tables.subscription_places.find(name.text()).is_some() {
+            return Ok(Outcome {
                 reply: Reply::Refused(Refusal::AlreadyExists(shown)),
                 changed: false,
             });
@@ -90,14 +86,17 @@ impl Core {
             topic_retention: None,
         };
         // Counted first: there are never more subscriptions than entries.
-        self.record(t);
+        self.record(at);
         let number = self.next_sub;
-        if let Err(error) = self.tables.add_share(alloc, place, number, name, config) {
+        if let Err(error) = self
+            .tables
+            .add_subscription(alloc, place, number, name, config)
+        {
             self.tables = Tables::new(alloc);
             return Err(error);
         }
         self.next_sub += 1;
-        Ok(Carried {
+        Ok(Outcome {
             reply: Reply::Subscription(shown),
             changed: true,
         })

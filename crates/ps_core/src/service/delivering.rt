@@ -1,54 +1,51 @@
 ghost use Rattle.std.specs.Prelude.{◌≡◌, ◌≤◌, ◌<◌, ◌+◌, ◌*◌, ◌^◌, ◌≢◌, [], true, false, IfOk, OnOk};
-ghost use Rattle.ps_base.specs.Moments.{last_moment};
+ghost use Rattle.ps_config.specs.Numbers.{most_ack_seconds};
+ghost use Rattle.ps_message.specs.Limits.{most_messages};
 ghost use Rattle.ps_model.specs.declared.command.Command.TheVariants.{Pull, Acknowledge};
 ghost use Rattle.ps_model.specs.Answering.{ticket_of};
 ghost use Rattle.ps_model.specs.Sound.{Ordered};
 ghost use Rattle.ps_model.specs.Worlds.{message_at};
-ghost use Rattle.ps_core.specs.Delivering.{IsLeaseNormal, received, received_all, tickets_of};
-ghost use Rattle.ps_core.specs.Effects.{given_of, lend_share, ack_share};
+ghost use Rattle.ps_core.specs.Calls.{is_normal};
+ghost use Rattle.ps_core.specs.Delivering.{received, received_all, tickets_of};
+ghost use Rattle.ps_core.specs.Effects.{given_of, lend_subscription, ack_subscription};
 
+use crate::kept_subscription::KeptSubscription;
 use crate::messages::message_numbered;
 use crate::service::Core;
-use crate::service::carried::Carried;
-use crate::share::Share;
+use crate::service::outcome::Outcome;
 use crate::tables::Tables;
-use ps_base::{AckId, Duplicate, Labels, List, Octets, OutOfMemory, Text};
+use ps_base::{AckId, Duplicate, Labels, List, Moment, Octets, OutOfMemory, Text};
+use ps_config::DEFAULT_ACK_SECONDS;
 use ps_message::Message;
 use ps_model::{Handed, MessageRow, ReceivedMessage, Reply, Ticket};
 use ps_names::SubName;
 use std::alloc::Global;
 
-/// The seconds of a lease where the pull says none: the setting of a new subscription.
-const ACK_SECONDS: u32 = 10;
-
 impl Core {
-    ghost use Rattle.ps_core.specs.Carrying.{IsCarried};
+    ghost use Rattle.ps_core.specs.Carrying.{CanRecord, IsCarried};
 
     /// Hands out messages of a subscription (API reference, Subscriber.Pull).
     pub(super) fn pull(
         &mut self,
         alloc: Global,
-        t: u64,
+        at: Moment,
         name: &SubName,
         max: u32,
         budget: u64,
         seconds: Option<u32>,
-    ) -> Result<Carried, OutOfMemory>
-        requires room { self.old.count < 2 ^ 50 }
-        requires later { self.old.now ≤ t }
-        requires within { t ≤ last_moment }
+    ) -> Result<Outcome, OutOfMemory>
+        requires can { CanRecord at self.old }
         requires some { max ≢ 0 }
-        requires few { max ≤ 1000 }
-        requires lease { IsLeaseNormal seconds }
-        ensures { IfOk result (λ made. IsCarried t (Pull name.now max budget seconds) self.old self.new made.reply made.changed) }
+        requires normal { is_normal (Pull name.now max budget seconds) ≡ true }
+        ensures { IfOk result (λ outcome. IsCarried at (Pull name.now max budget seconds) self.old self.new outcome.reply outcome.changed) }
     {
-        let Some(place) = self.tables.share_places.find(name.text()) else {
-            return Carried::missing(alloc, name.text());
+        let Some(place) = self.tables.subscription_places.find(name.text()) else {
+            return Outcome::missing(alloc, name.text());
         };
-        let seconds = seconds.unwrap_or(ACK_SECONDS);
+        let seconds = seconds.unwrap_or(DEFAULT_ACK_SECONDS);
         let messages = self.tables.messages.as_slice();
-        let share = &mut self.tables.shares[place];
-        let items = match hand_out(alloc, t, max, budget, seconds, share, messages) {
+        let subscription = &mut self.tables.subscriptions[place];
+        let items = match hand_out(alloc, at, max, budget, seconds, subscription, messages) {
             Ok(items) => items,
             Err(error) => {
                 self.tables = Tables::new(alloc);
@@ -57,12 +54,14 @@ impl Core {
         };
         let changed = items.len() != 0;
         if changed {
-            // In place, since the leases that went out are of this entry: `record` asks for a state that is kept.
-            self.clock = t;
+            // Written here and not by `record`, which asks for a state that is already consistent: these leases are part
+            // of this entry.
+            let now = at.milliseconds();
+            self.clock = now;
             self.count += 1;
-            self.wake = self.wake.min(t + 1000 * u64::from(seconds));
+            self.next_end = self.next_end.min(now + 1000 * u64::from(seconds));
         }
-        Ok(Carried {
+        Ok(Outcome {
             reply: Reply::Received {
                 exactly_once: false,
                 ordering: false,
@@ -76,20 +75,18 @@ impl Core {
     pub(super) fn acknowledge(
         &mut self,
         alloc: Global,
-        t: u64,
+        at: Moment,
         name: &SubName,
         ids: &[AckId],
-    ) -> Result<Carried, OutOfMemory>
-        requires room { self.old.count < 2 ^ 50 }
-        requires later { self.old.now ≤ t }
-        requires within { t ≤ last_moment }
+    ) -> Result<Outcome, OutOfMemory>
+        requires can { CanRecord at self.old }
         requires some { ids.now ≢ [] }
-        ensures { IfOk result (λ made. IsCarried t (Acknowledge name.now ids.now) self.old self.new made.reply made.changed) }
+        ensures { IfOk result (λ outcome. IsCarried at (Acknowledge name.now ids.now) self.old self.new outcome.reply outcome.changed) }
     {
-        let Some(place) = self.tables.share_places.find(name.text()) else {
-            return Carried::missing(alloc, name.text());
+        let Some(place) = self.tables.subscription_places.find(name.text()) else {
+            return Outcome::missing(alloc, name.text());
         };
-        let changed = match take_back(alloc, ids, &mut self.tables.shares[place]) {
+        let changed = match take_back(alloc, ids, &mut self.tables.subscriptions[place]) {
             Ok(changed) => changed,
             Err(error) => {
                 self.tables = Tables::new(alloc);
@@ -97,10 +94,10 @@ impl Core {
             }
         };
         if changed {
-            self.clock = t;
+            self.clock = at.milliseconds();
             self.count += 1;
         }
-        Ok(Carried {
+        Ok(Outcome {
             reply: Reply::Acked {
                 exactly_once: false,
                 invalid: List::new(alloc),
@@ -111,29 +108,29 @@ impl Core {
     }
 }
 
-/// Leases messages of one subscription for so many seconds, and tells which.
+/// Leases messages of one subscription for so many seconds, and returns them.
 fn hand_out(
     alloc: Global,
-    t: u64,
+    at: Moment,
     max: u32,
     budget: u64,
     seconds: u32,
-    share: &mut Share,
+    subscription: &mut KeptSubscription,
     messages: &[MessageRow],
 ) -> Result<List<ReceivedMessage>, OutOfMemory>
-    requires within { t ≤ last_moment }
-    requires few { max ≤ 1000 }
-    requires lease { seconds ≤ 600 }
-    requires leases { share.old.sub.next_lease ≤ 2 ^ 61 }
+    requires few { max ≤ most_messages }
+    requires lease { seconds ≤ most_ack_seconds }
+    requires leases { subscription.old.sub.next_lease ≤ 2 ^ 61 }
     requires messages { Ordered (λ a b. a.number < b.number) messages.now }
-    ensures items { IfOk result (λ items. items ≡ received_all share.old.number messages.now (given_of t max budget share.old)) }
-    ensures after { OnOk result (share.new ≡ lend_share (t + 1000 * seconds) (given_of t max budget share.old) share.old) }
+    ensures items { IfOk result (λ items. items ≡ received_all subscription.old.number messages.now (given_of at max budget subscription.old)) }
+    ensures after { OnOk result (subscription.new ≡ lend_subscription (at + 1000 * seconds) (given_of at max budget subscription.old) subscription.old) }
 {
-    let given = share.sub.pull(alloc, t, max, budget, seconds)?;
-    received(alloc, share.number, given.as_slice(), messages)
+    let now = at.milliseconds();
+    let given = subscription.sub.pull(alloc, now, max, budget, seconds)?;
+    received(alloc, subscription.number, given.as_slice(), messages)
 }
 
-/// What the caller is told of the messages that went out, in order.
+/// The messages that were handed out, as the caller gets them, in order.
 fn received(
     alloc: Global,
     sub: u64,
@@ -141,13 +138,13 @@ fn received(
     messages: &[MessageRow],
 ) -> Result<List<ReceivedMessage>, OutOfMemory>
     requires { Ordered (λ a b. a.number < b.number) messages.now }
-    ensures { IfOk result (λ made. made ≡ received_all sub messages.now given.now) }
+    ensures { IfOk result (λ items. items ≡ received_all sub messages.now given.now) }
 {
-    let mut made = List::new(alloc);
+    let mut items = List::new(alloc);
     for handed in given {
-        made.push(received_one(alloc, sub, *handed, messages)?)?;
+        items.push(received_one(alloc, sub, *handed, messages)?)?;
     }
-    Ok(made)
+    Ok(items)
 }
 
 fn received_one(
@@ -157,11 +154,11 @@ fn received_one(
     messages: &[MessageRow],
 ) -> Result<ReceivedMessage, OutOfMemory>
     requires { Ordered (λ a b. a.number < b.number) messages.now }
-    ensures { IfOk result (λ made. made ≡ received sub handed (message_at messages.now handed.number)) }
+    ensures { IfOk result (λ shown. shown ≡ received sub handed (message_at messages.now handed.number)) }
 {
     let (publish, message) = match message_numbered(messages, handed.number) {
         Some(row) => (row.publish, row.message.copy(alloc)?),
-        // A kept state never needs this: what a subscription has was published, and no message is taken away.
+        // Never reached: each message of a subscription was published, and no message is removed.
         None => (0, no_message(alloc)),
     };
     Ok(ReceivedMessage {
@@ -176,7 +173,7 @@ fn received_one(
     })
 }
 
-/// In place of a message that isn't there.
+/// An empty message.
 fn no_message(alloc: Global) -> Message
     ensures { result ≡ record { payload = []; attributes = []; key = [] } }
 {
@@ -187,18 +184,22 @@ fn no_message(alloc: Global) -> Message
     }
 }
 
-/// Acknowledges the leases that the ids name on one subscription, and tells whether that changed a mark.
-fn take_back(alloc: Global, ids: &[AckId], share: &mut Share) -> Result<bool, OutOfMemory>
-    ensures after { OnOk result (share.new ≡ ack_share (tickets_of share.old.number ids.now) share.old) }
-    ensures same { IfOk result (λ changed. changed ≡ false → share.new.sub.slots ≡ share.old.sub.slots) }
-    ensures changed { IfOk result (λ changed. changed ≡ true → share.new.sub.slots ≢ share.old.sub.slots) }
+/// Acknowledges the leases that the ids name on one subscription, and returns whether that changed a mark.
+fn take_back(
+    alloc: Global,
+    ids: &[AckId],
+    subscription: &mut KeptSubscription,
+) -> Result<bool, OutOfMemory>
+    ensures after { OnOk result (subscription.new ≡ ack_subscription (tickets_of subscription.old.number ids.now) subscription.old) }
+    ensures same { IfOk result (λ changed. changed ≡ false → subscription.new.sub.slots ≡ subscription.old.sub.slots) }
+    ensures changed { IfOk result (λ changed. changed ≡ true → subscription.new.sub.slots ≢ subscription.old.sub.slots) }
 {
-    let tickets = tickets_of(alloc, share.number, ids)?;
-    let outcome = share.sub.acknowledge(alloc, tickets.as_slice())?;
+    let tickets = tickets_of(alloc, subscription.number, ids)?;
+    let outcome = subscription.sub.acknowledge(alloc, tickets.as_slice())?;
     Ok(outcome.changed)
 }
 
-/// The leases that the ids name on the subscription of this number, in order.
+/// The leases that the ids name on the subscription with this number, in order.
 fn tickets_of(alloc: Global, sub: u64, ids: &[AckId]) -> Result<Vec<Ticket>, OutOfMemory>
     ensures { IfOk result (λ tickets. tickets.items ≡ tickets_of sub ids.now) }
 {

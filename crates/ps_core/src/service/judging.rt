@@ -1,18 +1,18 @@
-ghost use Rattle.std.specs.Prelude.{◌≡◌, ◌≤◌, ◌<◌, ◌^◌, ◌⊎◌, Some, None, IfOk, true, false};
-ghost use Rattle.ps_base.specs.Moments.{last_moment};
+ghost use Rattle.std.specs.Prelude.{◌≡◌, Some, None, IfOk, true, false};
 ghost use Rattle.ps_model.specs.Checks.{argument_fault, as_read};
 ghost use Rattle.ps_core.specs.Built.{unbuilt};
+ghost use Rattle.ps_core.specs.Calls.{is_normal};
 
-use crate::built::{argument_fault, as_read, lease_seconds, unbuilt};
-use crate::service::carried::Carried;
+use crate::built::{argument_fault, as_read, unbuilt};
+use crate::service::outcome::Outcome;
 use crate::service::{Core, MOST_ENTRIES};
-use ps_base::{OutOfMemory, Refusal, Text};
+use ps_base::{Moment, OutOfMemory, Refusal, Text};
 use ps_book::Verdict;
 use ps_model::{Command, Entry, Reply};
 use std::alloc::Global;
 
 impl Core {
-    ghost use Rattle.ps_core.specs.Carrying.{IsCarried};
+    ghost use Rattle.ps_core.specs.Carrying.{CanRecord, IsCarried, IsEntryFor};
     ghost use Rattle.ps_core.specs.State.{seen};
     ghost use Rattle.ps_core.specs.Steady.{IsSteady};
     ghost use Rattle.ps_core.specs.Calls.{refusal_of, IsTicked, IsJudged};
@@ -20,57 +20,63 @@ impl Core {
     ghost use Rattle.ps_model.specs.declared.command.Command.TheVariants.{Tick};
     ghost use Rattle.ps_model.specs.declared.reply.Reply.TheVariants.{Refused};
 
-    /// Carries out a command that nothing refuses, in the form in which it is recorded, in the settled world.
+    /// Carries out a command that isn't refused, in the form in which it is recorded and in the settled world.
     pub(super) fn carry(
         &mut self,
         alloc: Global,
-        t: u64,
+        at: Moment,
         command: &Command,
-    ) -> Result<Carried, OutOfMemory>
-        requires room { self.old.count < 2 ^ 50 }
-        requires later { self.old.now ≤ t }
-        requires within { t ≤ last_moment }
+    ) -> Result<Outcome, OutOfMemory>
+        requires can { CanRecord at self.old }
         requires built { unbuilt command.now ≡ None }
-        requires good { argument_fault (as_read command.now) ≡ None }
-        ensures { IfOk result (λ made. IsCarried t (as_read command.now) self.old self.new made.reply made.changed) }
+        requires normal { is_normal command.now ≡ true }
+        requires good { argument_fault command.now ≡ None }
+        ensures { IfOk result (λ outcome. IsCarried at command.now self.old self.new outcome.reply outcome.changed) }
     {
         match command {
-            Command::CreateTopic { topic, config } => self.create_topic(alloc, t, topic, config),
+            Command::CreateTopic { topic, config } => self.create_topic(alloc, at, topic, config),
             Command::CreateSubscription {
                 subscription,
                 topic,
                 config,
-            } => self.create_subscription(alloc, t, subscription, topic, config),
+            } => self.create_subscription(alloc, at, subscription, topic, config),
             Command::Publish { topic, messages } => {
-                self.publish(alloc, t, topic, messages.as_slice())
+                self.publish(alloc, at, topic, messages.as_slice())
             }
             Command::Pull {
                 subscription,
                 max,
                 budget,
                 seconds,
-            } => {
-                let max = (*max).min(1000);
-                self.pull(
-                    alloc,
-                    t,
-                    subscription,
-                    max,
-                    *budget,
-                    lease_seconds(*seconds),
-                )
-            }
+            } => self.pull(alloc, at, subscription, *max, *budget, *seconds),
             Command::Acknowledge { subscription, ids } => {
-                self.acknowledge(alloc, t, subscription, ids.as_slice())
+                self.acknowledge(alloc, at, subscription, ids.as_slice())
             }
-            _ => Ok(Carried {
-                reply: Reply::Empty,
-                changed: false,
-            }),
+            Command::Tick => Ok(Outcome::nothing()),
+            // Not built, so refused before.
+            Command::UpdateTopic { .. }
+            | Command::GetTopic { .. }
+            | Command::DeleteTopic { .. }
+            | Command::ListTopics { .. }
+            | Command::ListTopicSubscriptions { .. }
+            | Command::ListTopicSnapshots { .. }
+            | Command::UpdateSubscription { .. }
+            | Command::GetSubscription { .. }
+            | Command::DeleteSubscription { .. }
+            | Command::ListSubscriptions { .. }
+            | Command::ModifyAckDeadline { .. }
+            | Command::SeekTime { .. }
+            | Command::SeekSnapshot { .. }
+            | Command::Detach { .. }
+            | Command::CreateSnapshot { .. }
+            | Command::UpdateSnapshot { .. }
+            | Command::GetSnapshot { .. }
+            | Command::DeleteSnapshot { .. }
+            | Command::ListSnapshots { .. } => Ok(Outcome::nothing()),
         }
     }
 
-    /// Why a command is refused before anything is looked at.
+    /// Why a command is refused before the state is looked at.
     fn refusal(&self, alloc: Global, command: &Command) -> Result<Option<Refusal>, OutOfMemory>
         ensures refusal { IfOk result (λ refusal. refusal ≡ refusal_of (seen self.now) command.now) }
         ensures steady { IsSteady self.now }
@@ -86,58 +92,68 @@ impl Core {
         Ok(if full { Some(Refusal::Exhausted) } else { None })
     }
 
-    /// Lets the moment do its work where no command does any, and tells the entry of that.
+    /// The Tick that records what settling did, if it did something.
+    fn tick_if(&mut self, at: Moment, moved: bool) -> Option<Entry>
+        requires can { CanRecord at self.old }
+        ensures moved { moved ≡ true → (result ≡ Some (record { now = at; command = Tick })) × (self.new ≡ recorded_at at self.old) }
+        ensures still { moved ≡ false → (result ≡ None) × (self.new ≡ self.old) }
+    {
+        if !moved {
+            return None;
+        }
+        self.record(at);
+        Some(Entry {
+            now: at.milliseconds(),
+            command: Command::Tick,
+        })
+    }
+
+    /// Settles what is due if the command itself is refused, and gives the Tick that records it.
     fn settle_alone(&mut self, alloc: Global, now: u64) -> Result<Option<Entry>, OutOfMemory>
         ensures { IfOk result (λ entry. IsTicked (seen self.old) now entry (seen self.new)) }
     {
         if self.is_full() {
             return Ok(None);
         }
-        let t = self.moment(now);
-        if !self.settle(alloc, t)? {
-            return Ok(None);
-        }
-        self.record(t);
-        Ok(Some(Entry {
-            now: t,
-            command: Command::Tick,
-        }))
+        let at = self.moment(now);
+        let due = self.settle(alloc, at)?;
+        Ok(self.tick_if(at, due))
     }
 
-    /// The entry of a call that was carried out, and where only the moment did something, the step of a Tick.
-    fn entry_for(
-        &mut self,
-        alloc: Global,
-        t: u64,
-        moved: bool,
-        changed: bool,
-        command: &Command,
-    ) -> Result<Option<Entry>, OutOfMemory>
-        requires room { self.old.count < 2 ^ 50 ⊎ changed ≡ true }
-        requires later { self.old.now ≤ t }
-        requires within { t ≤ last_moment }
-        requires built { unbuilt command.now ≡ None }
-        ensures changed { IfOk result (λ entry. changed ≡ true → (entry ≡ Some (record { now = t; command = as_read command.now })) × (self.new ≡ self.old)) }
-        ensures moved { IfOk result (λ entry. changed ≡ false → moved ≡ true → (entry ≡ Some (record { now = t; command = Tick })) × (self.new ≡ recorded_at t self.old)) }
-        ensures still { IfOk result (λ entry. changed ≡ false → moved ≡ false → (entry ≡ None) × (self.new ≡ self.old)) }
+    /// The entry of a command that was carried out: the command itself if it changed the world, and else a Tick if
+    /// settling did.
+    fn entry_for(&mut self, at: Moment, moved: bool, changed: bool, read: Command) -> Option<Entry>
+        requires can { changed ≡ false → CanRecord at self.old }
+        ensures { IsEntryFor at read moved changed self.old self.new result }
     {
         if changed {
-            return Ok(Some(Entry {
-                now: t,
-                command: as_read(alloc, command)?,
-            }));
+            entry_of(at, read)
+        } else {
+            drop(read);
+            self.tick_if(at, moved)
         }
-        if !moved {
-            return Ok(None);
-        }
-        self.record(t);
-        Ok(Some(Entry {
-            now: t,
-            command: Command::Tick,
-        }))
     }
 
-    /// Answers a command that nothing refuses, and makes its step.
+    /// The answer to a command that was carried out, with its entry.
+    fn verdict(
+        &mut self,
+        at: Moment,
+        moved: bool,
+        outcome: Outcome,
+        read: Command,
+    ) -> Verdict<Reply, Entry>
+        requires can { outcome.changed ≡ false → CanRecord at self.old }
+        ensures reply { result.reply ≡ outcome.reply }
+        ensures entry { IsEntryFor at read moved outcome.changed self.old self.new result.entry }
+    {
+        let Outcome { reply, changed } = outcome;
+        Verdict {
+            reply,
+            entry: self.entry_for(at, moved, changed, read),
+        }
+    }
+
+    /// Answers a command that isn't refused, and makes its step.
     fn judge_good(
         &mut self,
         alloc: Global,
@@ -147,12 +163,12 @@ impl Core {
         requires { refusal_of (seen self.old) command.now ≡ None }
         ensures { IfOk result (λ v. IsJudged (seen self.old) now command.now v.reply v.entry (seen self.new)) }
     {
-        let t = self.moment(now);
-        let moved = self.settle(alloc, t)?;
-        let carried = self.carry(alloc, t, command)?;
-        match self.entry_for(alloc, t, moved, carried.changed, command) {
-            Ok(entry) => Ok(with_entry(carried, entry)),
-            Err(error) => Err(without_answer(carried, error)),
+        let at = self.moment(now);
+        let moved = self.settle(alloc, at)?;
+        let read = as_read(alloc, command)?;
+        match self.carry(alloc, at, &read) {
+            Ok(outcome) => Ok(self.verdict(at, moved, outcome, read)),
+            Err(error) => Err(without_command(read, error)),
         }
     }
 
@@ -166,17 +182,14 @@ impl Core {
         ensures ticked { IfOk result (λ v. IsTicked (seen self.old) now v.entry (seen self.new)) }
         ensures reply { IfOk result (λ v. v.reply ≡ Refused refusal) }
     {
-        let carried = Carried {
-            reply: Reply::Refused(refusal),
-            changed: false,
-        };
+        let reply = Reply::Refused(refusal);
         match self.settle_alone(alloc, now) {
-            Ok(entry) => Ok(with_entry(carried, entry)),
-            Err(error) => Err(without_answer(carried, error)),
+            Ok(entry) => Ok(Verdict { reply, entry }),
+            Err(error) => Err(without_reply(reply, error)),
         }
     }
 
-    /// Answers a command given at a moment, in milliseconds since 1970, and makes its step.
+    /// Answers a command that comes `now` milliseconds after 1970 began, and makes its step.
     pub(crate) fn judge_command(
         &mut self,
         alloc: Global,
@@ -192,15 +205,21 @@ impl Core {
     }
 }
 
-fn with_entry(carried: Carried, entry: Option<Entry>) -> Verdict<Reply, Entry>
-    ensures reply { result.reply ≡ carried.reply }
-    ensures entry { result.entry ≡ entry }
+fn entry_of(at: Moment, command: Command) -> Option<Entry>
+    ensures { result ≡ Some (record { now = at; command = command }) }
 {
-    let Carried { reply, .. } = carried;
-    Verdict { reply, entry }
+    Some(Entry {
+        now: at.milliseconds(),
+        command,
+    })
 }
 
-/// Lets an answer go for which there was no memory to record it.
-fn without_answer(_carried: Carried, error: OutOfMemory) -> OutOfMemory {
+/// Drops a command when there was no memory to carry it out.
+fn without_command(_read: Command, error: OutOfMemory) -> OutOfMemory {
+    error
+}
+
+/// Drops an answer when there was no memory to settle.
+fn without_reply(_reply: Reply, error: OutOfMemory) -> OutOfMemory {
     error
 }

@@ -5,6 +5,6 @@ use Rattle.ps_core.proofs.entering.enter_each.Given as goal
 -- the places that are left, in what the others made
 abbrev pub invariant-loop-place : goal.invariant-loop-place
 invariant-loop-place l = record {
-  can : CanEnterEach l.rows (drop l.place-index l.places) l.shares;
-  left : enter_each l.rows (drop l.place-index l.places) l.shares ≡ enter_each l.rows l.places l.initial.shares;
+  can : CanEnterEach l.rows (drop l.place-index l.places) l.subscriptions;
+  left : enter_each l.rows (drop l.place-index l.places) l.subscriptions ≡ enter_each l.rows l.places l.initial.subscriptions;
 }

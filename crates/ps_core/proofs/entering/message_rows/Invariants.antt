@@ -7,5 +7,5 @@ use Rattle.ps_core.proofs.entering.message_rows.Given as goal
 abbrev pub invariant-loop-message : goal.invariant-loop-message
 invariant-loop-message l = record {
   number : l.number ≡ l.first + l.message-index;
-  rows : l.rows.items ++ map (kept_if l.kept) (message_rows l.topic l.number l.t (drop l.message-index l.messages)) ≡ map (kept_if l.kept) (message_rows l.topic l.first l.t l.messages);
+  rows : l.rows.items ++ map (kept_if l.kept) (message_rows l.topic l.number l.publish (drop l.message-index l.messages)) ≡ map (kept_if l.kept) (message_rows l.topic l.first l.publish l.messages);
 }

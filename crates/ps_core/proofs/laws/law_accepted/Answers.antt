@@ -1,4 +1,4 @@
-use Rattle.ps_core.proofs.AcceptanceLemmas.{accepts}
+use Rattle.ps_core.proofs.applying.Accepted.{accepts}
 use Rattle.ps_core.proofs.laws.law_accepted.Goals as goal
 
 pub returns : goal.returns

@@ -1,4 +1,4 @@
-use Rattle.ps_core.proofs.AcceptanceLemmas.{histories_lead}
+use Rattle.ps_core.proofs.applying.Accepted.{histories_lead}
 use Rattle.ps_core.proofs.laws.law_history.Goals as goal
 
 pub returns : goal.returns

@@ -1,7 +1,7 @@
 use Rattle.std.proofs.Common.{Some, Ok, Err, sym, ap, ◌∙◌, rules}
 use Rattle.std.proofs.lemmas.List.Sorted.{answers_always}
 use Rattle.ps_model.specs.declared.world.MessageRow.{MessageRow}
-use Rattle.ps_core.proofs.SearchLemmas.{numbered-searched}
+use Rattle.ps_core.proofs.delivering.Search.{numbered-searched}
 use Rattle.ps_core.proofs.messages.message_numbered.Goals as goal
 
 pub returns-in-Ok : goal.returns-in-Ok

@@ -1,6 +1,6 @@
 use Rattle.std.proofs.Common.{◌∙◌, sym}
 use Rattle.ps_core.specs.State.{seen}
-use Rattle.ps_core.proofs.JudgingLemmas.{judged-refused-all}
+use Rattle.ps_core.proofs.judging.Judged.{judged-refused-all}
 use Rattle.ps_core.proofs.service.Core.judge_command.Goals as goal
 
 pub returns-in-Some : goal.returns-in-Some

@@ -7,22 +7,22 @@ use Rattle.ps_model.specs.declared.world.MessageRow.{MessageRow}
 use Rattle.ps_core.specs.Keeping.{the_row}
 use Rattle.ps_core.specs.State.{sub_row}
 use Rattle.ps_core.specs.Stats.{capped}
-use Rattle.ps_core.specs.declared.share.Share.{Share}
-use Rattle.ps_core.proofs.StatLemmas.{marks_in}
+use Rattle.ps_core.specs.declared.kept_subscription.KeptSubscription.{KeptSubscription}
+use Rattle.ps_core.proofs.counting.Counted.{marks_in}
 use Rattle.ps_core.proofs.service.Core.stat.Goals as goal
 
 pub returns : goal.returns
 returns c =
     let tables = c.self.inside.tables in
     let topics : c.len.result ≡ length (map the_row tables.topics.items) = search (rules, length-map tables.topics.items the_row) in
-    let subs : c.len-2.result ≡ length (map sub_row tables.shares.items) = search (rules, length-map tables.shares.items sub_row) in
+    let subs : c.len-2.result ≡ length (map sub_row tables.subscriptions.items) = search (rules, length-map tables.subscriptions.items sub_row) in
     let kept = c.kept_messages.ensures ∙ ap (tally (λ (r : MessageRow). r.kept)) c.as_slice-2.ensures.value in
-    let shares = c.as_slice.ensures.value in
+    let subscriptions = c.as_slice.ensures.value in
     let marks = c.marks_of_all-marks.ensures in
-    let backlog = marks.backlog ∙ ap (λ (xs : List Share). capped (marks_in is_backlog xs)) shares in
-    let leased = marks.leased ∙ ap (λ (xs : List Share). capped (marks_in is_leased xs)) shares in
-    let acknowledged = marks.acknowledged ∙ ap (λ (xs : List Share). capped (marks_in is_acknowledged xs)) shares in
-    let dead = marks.dead ∙ ap (λ (xs : List Share). capped (marks_in is_dead_lettered xs)) shares in
+    let backlog = marks.backlog ∙ ap (λ (xs : List KeptSubscription). capped (marks_in is_backlog xs)) subscriptions in
+    let leased = marks.leased ∙ ap (λ (xs : List KeptSubscription). capped (marks_in is_leased xs)) subscriptions in
+    let acknowledged = marks.acknowledged ∙ ap (λ (xs : List KeptSubscription). capped (marks_in is_acknowledged xs)) subscriptions in
+    let dead = marks.dead ∙ ap (λ (xs : List KeptSubscription). capped (marks_in is_dead_lettered xs)) subscriptions in
     rw (← c.self.view_is) (λ i. record {
       entries = c.self.inside.count;
       now = c.self.inside.clock;

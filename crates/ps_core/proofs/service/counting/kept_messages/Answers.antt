@@ -1,6 +1,6 @@
 use Rattle.std.proofs.Common.{◌<◌, length, arith}
 use Rattle.ps_model.specs.declared.world.MessageRow.{MessageRow}
-use Rattle.ps_core.proofs.StatLemmas.{tally_more, tally_same, tally-take_le}
+use Rattle.ps_core.proofs.counting.Counted.{tally-take_le, tally_more, tally_same}
 use Rattle.ps_core.proofs.service.counting.kept_messages.Goals as goal
 use Rattle.ps_core.proofs.service.counting.kept_messages.Goals.{then-row, else-row}
 

@@ -4,4 +4,4 @@ use Rattle.ps_core.proofs.service.delivering.received.Given as goal
 
 -- those so far
 abbrev pub invariant-loop-handed : goal.invariant-loop-handed
-invariant-loop-handed l = l.made ≡ received_all l.sub l.messages (take l.handed-index l.given)
+invariant-loop-handed l = l.items ≡ received_all l.sub l.messages (take l.handed-index l.given)

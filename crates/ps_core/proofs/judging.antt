@@ -1,0 +1,5 @@
+pub mod Settled
+pub mod Changed
+pub mod Rests
+pub mod Refused
+pub mod Judged

@@ -1,0 +1,4 @@
+pub mod Ordered
+pub mod Flat
+pub mod Entering
+pub mod OnePlace

@@ -1,0 +1,6 @@
+pub mod Passes
+pub mod Expunging
+pub mod Ending
+pub mod Moving
+pub mod Loop
+pub mod Due

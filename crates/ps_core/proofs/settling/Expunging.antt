@@ -1,0 +1,145 @@
+-- While everything is held, expunging changes nothing.
+use Rattle.std.proofs.Common.{ℕ, ◌≡◌, Bool, true, false, ◌&&◌, ◌||◌, not, nat_eq, List, [], ◌∷◌, Option, Some, None, map, find, option_and_then, refl, ◌∙◌, ap}
+use Rattle.std.specs.List.{AllByRecursion, list_any}
+use Rattle.std.proofs.Math.Bool.{and-true, or-false}
+use Rattle.std.proofs.lemmas.Bool.{or_right, and_right, cond_both}
+use Rattle.std.proofs.lemmas.List.Folds.{list_any-append}
+use Rattle.ps_model.specs.declared.mark.Mark.{Mark}
+use Rattle.ps_model.specs.declared.mark.Mark.TheVariants.{Backlog, Leased, Ahead, Done, Gone}
+use Rattle.ps_model.specs.declared.mark.Slot.{Slot}
+use Rattle.ps_config.specs.declared.config.TopicConfig.{TopicConfig}
+use Rattle.ps_model.specs.declared.world.World.{World}
+use Rattle.ps_model.specs.declared.world.TopicRow.{TopicRow}
+use Rattle.ps_model.specs.declared.world.SubRow.{SubRow}
+use Rattle.ps_model.specs.declared.world.MessageRow.{MessageRow}
+use Rattle.ps_model.specs.declared.world.MarkRow.{MarkRow}
+use Rattle.ps_config.specs.Masks.{default_topic}
+use Rattle.ps_model.specs.Retention.{expired_mark, caught_up_mark, released_mark, caught_up_as, is_within}
+use Rattle.ps_model.specs.Settling.{expire, catch_up, release, is_wanted, let_go, expunge_world}
+use Rattle.ps_model.specs.Slots.{is_gone, is_done, is_unacked, any_earlier}
+use Rattle.ps_model.specs.Worlds.{sub_numbered, slots_of, slot_of, row_of, new_mark, remark_all, holds_of, window_of}
+use Rattle.ps_sub.specs.Showing.{has}
+use Rattle.ps_core.specs.declared.kept_subscription.KeptSubscription.{KeptSubscription}
+use Rattle.ps_core.specs.State.{State, seen, flat_marks}
+use Rattle.ps_core.specs.Steady.{IsPlainMark, IsJoined, IsSteadySubscription, IsSteady, is_had}
+use Rattle.ps_base.proofs.Lists.{each-append, each-map, each-then, map-alike, map-rests}
+use Rattle.ps_core.proofs.settling.Passes.{pass-rests}
+
+-- what expunging reads of a state: settings of topics that keep nothing, and marks that are plain
+pub record IsPlain (s : State) : Type 0 where
+  pub topic_settings : AllByRecursion (λ (r : TopicRow). r.config ≡ default_topic) s.topics
+  pub marks : AllByRecursion (λ (x : KeptSubscription). AllByRecursion (λ (slot : Slot). IsPlainMark slot.mark) x.sub.slots) s.subscriptions
+
+pub plain-steady : (s : State) → IsSteady s → IsPlain s
+plain-steady s h = record {
+  topic_settings = h.topic_settings;
+  marks = each-then (IsSteadySubscription s) (λ (x : KeptSubscription). AllByRecursion (λ (slot : Slot). IsPlainMark slot.mark) x.sub.slots) s.subscriptions (λ x own. each-then (IsJoined s x) (λ (slot : Slot). IsPlainMark slot.mark) x.sub.slots (λ slot j. j.plain) own.joined) h.each;
+}
+
+-- what holds of each mark of a subscription holds of each row
+rows-each : (P : Mark → Type 0) (n : ℕ) (slots : List Slot) → AllByRecursion (λ (slot : Slot). P slot.mark) slots → AllByRecursion (λ (r : MarkRow). P r.mark) (map (row_of n) slots)
+rows-each P n slots h = each-map (λ (slot : Slot). P slot.mark) (λ (r : MarkRow). P r.mark) (row_of n) slots (λ slot p. p) h
+
+pub marks-each : (P : Mark → Type 0) (xs : List KeptSubscription) → AllByRecursion (λ (x : KeptSubscription). AllByRecursion (λ (slot : Slot). P slot.mark) x.sub.slots) xs → AllByRecursion (λ (r : MarkRow). P r.mark) (flat_marks xs)
+marks-each P [] h = tt
+marks-each P (x ∷ xs) h = each-append (λ (r : MarkRow). P r.mark) (map (row_of x.number) x.sub.slots) (flat_marks xs) (rows-each P x.number x.sub.slots h.0) (marks-each P xs h.1)
+
+-- a pass whose rule leaves the mark of each slot
+leaves-all : (rule : SubRow → List Slot → Slot → Mark) (w : World) → ((sub : SubRow) (slots : List Slot) (slot : Slot) → rule sub slots slot ≡ slot.mark) → remark_all rule w ≡ w
+leaves-all rule w h = pass-rests rule w (each w.marks)
+  where
+    one : (r : MarkRow) (o : Option SubRow) → new_mark rule w r o ≡ r.mark
+    one r None = refl
+    one r (Some sub) = h sub (slots_of w sub.number) (slot_of w.messages r)
+
+    each : (rows : List MarkRow) → AllByRecursion (λ (r : MarkRow). new_mark rule w r (sub_numbered w r.sub) ≡ r.mark) rows
+    each [] = tt
+    each (r ∷ rows) = (one r (sub_numbered w r.sub), each rows)
+
+-- everything is held, so nothing expires
+pub expire-rests : (at : ℕ) (w : World) → expire at w ≡ w
+expire-rests at w = leaves-all (λ sub slots. expired_mark at sub.config (holds_of w sub.topic)) w (λ sub slots slot. rw (or_right (is_done slot.mark) true refl) refl)
+
+pub release-rests : (at : ℕ) (w : World) → release at w ≡ w
+release-rests at w = leaves-all (λ sub slots. released_mark at sub.config (holds_of w sub.topic)) w (λ sub slots slot. rw (and_right (is_done slot.mark) false refl) refl)
+
+plain-caught_up : (m : Mark) → IsPlainMark m → caught_up_as m ≡ m
+plain-caught_up (Backlog failures until last) h = refl
+plain-caught_up (Leased failures lease deadline) h = refl
+plain-caught_up (Ahead failures) h = absurd h
+plain-caught_up (Done cause) h = refl
+plain-caught_up (Gone cause) h = absurd h
+
+-- nothing is ahead, so nothing catches up
+pub catch_up-rests : (w : World) → AllByRecursion (λ (r : MarkRow). IsPlainMark r.mark) w.marks → catch_up w ≡ w
+catch_up-rests w h =
+    pass-rests (λ sub. caught_up_mark sub.config.ordering) w
+    (each-then (λ (r : MarkRow). IsPlainMark r.mark) (λ (r : MarkRow). new_mark (λ sub. caught_up_mark sub.config.ordering) w r (sub_numbered w r.sub) ≡ r.mark) w.marks (λ r plain. one r plain (sub_numbered w r.sub)) h)
+  where
+    one : (r : MarkRow) → IsPlainMark r.mark → (o : Option SubRow) → new_mark (λ sub. caught_up_mark sub.config.ordering) w r o ≡ r.mark
+    one r plain None = refl
+    one r plain (Some sub) =
+        cond_both (any_earlier sub.config.ordering (λ (e : Slot). is_unacked e.mark) (slots_of w sub.number) (slot_of w.messages r)) r.mark (caught_up_as r.mark) (λ (m : Mark). m ≡ r.mark)
+        (λ _. refl) (λ _. plain-caught_up r.mark plain)
+
+plain-here : (m : Mark) → IsPlainMark m → is_gone m ≡ false
+plain-here (Backlog failures until last) h = refl
+plain-here (Leased failures lease deadline) h = refl
+plain-here (Ahead failures) h = refl
+plain-here (Done cause) h = refl
+plain-here (Gone cause) h = absurd h
+
+-- a row of the message that isn't gone
+abbrev wants : ℕ → MarkRow → Bool
+wants number m = nat_eq m.message number && not (is_gone m.mark)
+
+slots-want : (n number : ℕ) (slots : List Slot) → AllByRecursion (λ (slot : Slot). IsPlainMark slot.mark) slots → list_any (wants number) (map (row_of n) slots) ≡ has slots number
+slots-want n number [] h = refl
+slots-want n number (slot ∷ slots) h =
+    let first : wants number (row_of n slot) ≡ nat_eq slot.item.number number = ap (λ (gone : Bool). nat_eq slot.item.number number && not gone) (plain-here slot.mark h.0) ∙ and-true (nat_eq slot.item.number number) in
+    λ i. first i || slots-want n number slots h.1 i
+
+marks-want : (number : ℕ) (xs : List KeptSubscription) → AllByRecursion (λ (x : KeptSubscription). AllByRecursion (λ (slot : Slot). IsPlainMark slot.mark) x.sub.slots) xs → list_any (wants number) (flat_marks xs) ≡ is_had xs number
+marks-want number [] h = refl
+marks-want number (x ∷ xs) h =
+    list_any-append (wants number) (map (row_of x.number) x.sub.slots) (flat_marks xs) ∙ λ i. slots-want x.number number x.sub.slots h.0 i || marks-want number xs h.1 i
+
+window-none : (number : ℕ) (topics : List TopicRow) → AllByRecursion (λ (r : TopicRow). r.config ≡ default_topic) topics
+    → option_and_then (λ (r : TopicRow). r.config.retention) (find (λ (r : TopicRow). nat_eq r.number number) topics) ≡ None
+window-none number [] h = refl
+window-none number (r ∷ topics) h =
+    cond_both (nat_eq r.number number) (Some r) (find (λ (x : TopicRow). nat_eq x.number number) topics) (λ (o : Option TopicRow). option_and_then (λ (x : TopicRow). x.config.retention) o ≡ None)
+    (λ _. ap (λ (c : TopicConfig). c.retention) h.0) (λ _. window-none number topics h.1)
+
+-- a message is wanted where some subscription has it
+pub wanted-had : (at : ℕ) (s : State) → IsPlain s → (m : MessageRow) → is_wanted at (flat_marks s.subscriptions) (holds_of (seen s) m.topic) m ≡ is_had s.subscriptions m.number
+wanted-had at s h m =
+    let window : window_of (seen s) m.topic ≡ None = window-none m.topic s.topics h.topic_settings in
+    ap (λ (w : Option ℕ). list_any (wants m.number) (flat_marks s.subscriptions) || (is_within at m.publish w || false)) window
+    ∙ or-false (list_any (wants m.number) (flat_marks s.subscriptions)) ∙ marks-want m.number s.subscriptions h.marks
+
+abbrev pub kept_where_had : List KeptSubscription → MessageRow → MessageRow
+kept_where_had subscriptions m = record m { kept = m.kept && is_had subscriptions m.number }
+
+-- Where every mark is plain, a message goes that no subscription has, and nothing else changes.
+pub expunge-kept : (at : ℕ) (s : State) → IsPlain s
+    → expunge_world at (seen s) ≡ seen (record s { messages = map (λ (m : MessageRow). record m { kept = m.kept && is_had s.subscriptions m.number }) s.messages })
+expunge-kept at s h =
+    let rests : release at (catch_up (expire at (seen s))) ≡ seen s =
+    release-rests at (catch_up (expire at (seen s))) ∙ ap catch_up (expire-rests at (seen s)) ∙ catch_up-rests (seen s) (marks-each IsPlainMark s.subscriptions h.marks) in
+    let kept : map (let_go at (seen s)) s.messages ≡ map (kept_where_had s.subscriptions) s.messages =
+    map-alike (let_go at (seen s)) (kept_where_had s.subscriptions) s.messages (λ m. ap (λ (had : Bool). record m { kept = m.kept && had }) (wanted-had at s h m)) in
+    ap (λ (w : World). record w { messages = map (let_go at w) w.messages }) rests ∙ λ i. record (seen s) { messages = kept i }
+
+pub and_same : (a b : Bool) → (a ≡ true → b ≡ true) → (a && b) ≡ a
+and_same true b h = h refl
+and_same false b h = refl
+
+-- While everything is held, nothing goes.
+pub expunge-seen : (at : ℕ) (s : State) → IsSteady s → expunge_world at (seen s) ≡ seen s
+expunge-seen at s h =
+    let kept : map (kept_where_had s.subscriptions) s.messages ≡ s.messages =
+    map-rests (kept_where_had s.subscriptions) s.messages
+    (each-then (λ (m : MessageRow). m.kept ≡ true → is_had s.subscriptions m.number ≡ true) (λ (m : MessageRow). kept_where_had s.subscriptions m ≡ m) s.messages
+    (λ m had. ap (λ (k : Bool). record m { kept = k }) (and_same m.kept (is_had s.subscriptions m.number) had)) h.wanted) in
+    expunge-kept at s (plain-steady s h) ∙ λ i. seen (record s { messages = kept i })
