@@ -11,8 +11,8 @@ use Rattle.ps_json.specs.Checks.{broken, checked, shape, unknown, Reads}
 use Rattle.ps_json.specs.Tables.{least}
 
 -- a reading that refuses what is refused
-pub told : {A : Type 0} (e : ReadError) (r : Refusal) (reading : Result A Refusal) → e ≡ Refused r → reading ≡ Err r → Reads {A = A} (Err e) reading
-told e r reading is refuses = rw is refuses
+pub refused_as : {A : Type 0} (e : ReadError) (r : Refusal) (reading : Result A Refusal) → e ≡ Refused r → reading ≡ Err r → Reads {A = A} (Err e) reading
+refused_as e r reading is refuses = rw is refuses
 
 -- an error that is passed on as it is
 pub passed_on : {A : Type 0} (r : Result A ReadError) (e : ReadError) (reading : Result A Refusal) → IsErrAnd r (λ x. x ≡ e) → Reads {A = A} (Err e) reading → Reads r reading

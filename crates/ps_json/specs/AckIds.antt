@@ -20,6 +20,6 @@ id_at bytes = record { sub = number_at 0 bytes; message = number_at 8 bytes; lea
 abbrev pub is_text_of : List ℕ → AckId → Bool
 is_text_of text id = nat_lt id.sub (2 ^ 64) && nat_lt id.message (2 ^ 64) && nat_lt id.lease (2 ^ 64) && bytes_eq (ack_text id) text
 
--- the id whose bytes the text spells, where this is its text
+-- the id whose bytes the text spells, if this is its text
 abbrev pub ack_id_of : List ℕ → Option AckId
 ack_id_of text = option_and_then (λ bytes. if is_text_of text (id_at bytes) then Some (id_at bytes) else None) (result_ok (decode_of standard text))

@@ -1,4 +1,4 @@
--- The checks on a call, each a refusal where it is broken, and what a reading answers.
+-- The checks on a call, each a refusal if it is broken, and what a reading answers.
 use Rattle.std.specs.Prelude.{◌≡◌, ℕ, List, Bool, if◌then◌else◌, Option, Some, None, option_map, Result, Ok, Err, ⊤}
 use Rattle.ps_base.specs.declared.reason.Reason.{Reason}
 use Rattle.ps_base.specs.declared.reason.Reason.TheVariants.{Shape, UnknownField}
@@ -9,20 +9,20 @@ use Rattle.ps_json.specs.declared.read_error.ReadError.{ReadError}
 use Rattle.ps_json.specs.declared.read_error.ReadError.TheVariants.{Refused, OutOfMemory}
 use Rattle.ps_json.specs.Tables.{least}
 
--- refused where the test holds
+-- refused if the test holds
 abbrev pub broken : Bool → Reason → Option Refusal
 broken test reason = if test then Some (InvalidArgument reason) else None
 
--- refused where the value at this path is of another kind
+-- refused if the value at this path is of another kind
 abbrev pub shape : {A : Type 0} → List ℕ → Option A → Option Refusal
 shape path None = Some (InvalidArgument (Shape path))
 shape path (Some value) = None
 
--- refused where there are unknown fields, by the least of their paths
+-- refused if there are unknown fields, by the least of their paths
 abbrev pub unknown : List (List ℕ) → Option Refusal
 unknown paths = option_map (λ path. InvalidArgument (UnknownField path)) (least paths)
 
--- the value, where nothing is refused
+-- the value, if nothing is refused
 abbrev pub unless : {A : Type 0} → Option Refusal → A → Result A Refusal
 unless None value = Ok value
 unless (Some refusal) value = Err refusal
@@ -31,8 +31,17 @@ unless (Some refusal) value = Err refusal
 abbrev pub checked : {A : Type 0} → List (Option Refusal) → A → Result A Refusal
 checked checks value = unless (first_of checks) value
 
--- what a reading answers is this value or this refusal; want of memory may come at any point
+-- what follows from what was read
+abbrev pub and_then : {A B : Type 0} → Result A Refusal → (A → Result B Refusal) → Result B Refusal
+and_then (Ok value) next = next value
+and_then (Err refusal) next = Err refusal
+
+-- the error is this refusal; out of memory may come at any point
+abbrev pub Refuses : {A : Type 0} → ReadError → Result A Refusal → Type 0
+Refuses (Refused refusal) reading = reading ≡ Err refusal
+Refuses OutOfMemory reading = ⊤
+
+-- what a reading answers is this value or this refusal
 abbrev pub Reads : {A : Type 0} → Result A ReadError → Result A Refusal → Type 0
 Reads (Ok value) reading = reading ≡ Ok value
-Reads (Err (Refused refusal)) reading = reading ≡ Err refusal
-Reads (Err OutOfMemory) reading = ⊤
+Reads (Err error) reading = Refuses error reading

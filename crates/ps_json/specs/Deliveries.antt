@@ -8,6 +8,7 @@ use Rattle.ps_base.specs.declared.reason.Reason.TheVariants.{Name, Shape, MaxMes
 use Rattle.ps_base.specs.declared.refusal.Refusal.{Refusal}
 use Rattle.ps_base.specs.declared.refusal.Refusal.TheVariants.{InvalidArgument}
 use Rattle.ps_names.specs.Names.{is_sub_name}
+use Rattle.ps_message.specs.Limits.{most_messages, most_bytes}
 use Rattle.ps_message.specs.Lists.{is_empty}
 use Rattle.ps_model.specs.declared.command.Command.{Command}
 use Rattle.ps_model.specs.declared.command.Command.TheVariants.{Pull, Acknowledge}
@@ -25,10 +26,10 @@ abbrev pub is_below_one : ℤ → Bool
 is_below_one (pos n) = nat_lt n 1
 is_below_one (negsuc n) = true
 
--- a number that isn't negative, at most 1,000
-abbrev pub at_most_thousand : ℤ → ℕ
-at_most_thousand (pos n) = min n 1000
-at_most_thousand (negsuc n) = 0
+-- a number that isn't negative, or the most messages of a pull if it is more
+abbrev pub pull_size : ℤ → ℕ
+pull_size (pos n) = min n most_messages
+pull_size (negsuc n) = 0
 
 -- how many messages are asked for
 abbrev pub max_in : Members → ℤ
@@ -43,9 +44,9 @@ pull_checks name ms =
     ∷ broken (is_below_one (max_in ms)) MaxMessages
     ∷ []
 
--- at most 1,000 messages and 10,000,000 bytes, for as long as the subscription leases them
+-- for as long as the subscription leases them
 abbrev pub pull_command : List ℕ → Members → Command
-pull_command name ms = Pull name (at_most_thousand (max_in ms)) 10000000 None
+pull_command name ms = Pull name (pull_size (max_in ms)) most_bytes None
 
 -- ---- acknowledgement
 
@@ -65,7 +66,7 @@ id_of item = option_and_then ack_id_of (as_str item)
 abbrev pub is_no_id : Data → Bool
 is_no_id item = is_none (id_of item)
 
--- the ids of a list in its order, equal ones too, where there is one and each item is one
+-- the ids of a list in its order, equal ones too, if there is one and each item is one
 abbrev pub ids_read : List Data → Option (List AckId)
 ids_read items = if is_empty items || list_any is_no_id items then None else Some (filter_map id_of items)
 

@@ -1,5 +1,6 @@
 -- The fields of a JSON object.
 use Rattle.std.specs.Prelude.{ℕ, List, [], ◌∷◌, Bool, true, false, ◌&&◌, not, length, nat_lt, if◌then◌else◌, Option, Some, None, option_and_then}
+use Rattle.std.specs.List.{list_any}
 use Rattle.std.specs.Str.{bytes_eq}
 use Rattle.serde_json.specs.Data.{Num, unsigned, negative, float, Data, null, boolean, number, string, array, object, Items, no_items, item, Members, no_members, member}
 use Rattle.serde_json.specs.Find.{get_member, as_number, as_str, as_u64}
@@ -32,11 +33,11 @@ abbrev pub without : List ℕ → Members → Members
 without name no_members = no_members
 without name (member k d ms) = if bytes_eq name k then ms else member k d (without name ms)
 
--- the field's number, where it is written with digits alone and at most 2 ^ 64 - 1
+-- the field's number, if it is written with digits alone and at most 2 ^ 64 - 1
 abbrev pub whole_field : List ℕ → Members → Option ℕ
 whole_field name ms = option_and_then as_u64 (option_and_then as_number (get_member name ms))
 
--- the field's text, where it is one
+-- the field's text, if it is one
 abbrev pub text_field : List ℕ → Members → Option (List ℕ)
 text_field name ms = option_and_then as_str (get_member name ms)
 
@@ -65,7 +66,10 @@ is_filled (string s) = nat_lt 0 (length s)
 is_filled (array ds) = has_items ds
 is_filled (object ms) = has_members ms
 
--- the least name in byte order, in which members stand, whose field is filled and isn't built
-abbrev pub first_filled : (List ℕ → Bool) → Members → Option (List ℕ)
-first_filled is_built no_members = None
-first_filled is_built (member k d ms) = if not (is_built k) && is_filled d then Some k else first_filled is_built ms
+abbrev pub is_one_of : List (List ℕ) → List ℕ → Bool
+is_one_of names name = list_any (bytes_eq name) names
+
+-- the least name in byte order, in which members stand, whose field is filled and is none of these
+abbrev pub first_filled : List (List ℕ) → Members → Option (List ℕ)
+first_filled built no_members = None
+first_filled built (member k d ms) = if not (is_one_of built k) && is_filled d then Some k else first_filled built ms

@@ -1,4 +1,4 @@
--- The kinds of fields: what a field's value stands for, and None where it is of another kind. A field that is absent or null has its default.
+-- The kinds of fields: what a field's value stands for, and None if it is of another kind. A field that is absent or null has its default.
 use Rattle.std.specs.Prelude.{ℕ, ◌+◌, ◌^◌, ◌&&◌, nat_lt, ℤ, pos, neg_ℤ, List, [], ◌∷◌, length, drop, map, Bool, false, if◌then◌else◌, Option, Some, None, is_some, option_map, option_and_then, unwrap_or}
 use Rattle.std.specs.List.{list_all}
 use Rattle.std.specs.Str.{all_ascii_digits}
@@ -32,7 +32,7 @@ flag_of = or_default false as_bool
 abbrev pub are_digits : List ℕ → Bool
 are_digits text = nat_lt 0 (length text) && all_ascii_digits text
 
--- the number that some digits write, where it is below a limit
+-- the number that some digits write, if it is below a limit
 abbrev pub number_below : ℕ → List ℕ → Option ℕ
 number_below limit text = if are_digits text && nat_lt (digits_value 10 text) limit then Some (digits_value 10 text) else None
 

@@ -39,6 +39,6 @@ line_of_members ms =
     (text_field (codes "path") ms)) (text_field (codes "verb") ms)) (whole_field (codes "at") ms)
     else None
 
--- the line that these bytes are, where they are one: UTF-8, JSON and an object of such fields
+-- the line that these bytes are, if they are one: UTF-8, JSON and an object of such fields
 abbrev pub line_of : List ℕ → Option Line
 line_of bytes = if is_utf8 bytes then option_and_then line_of_members (option_and_then as_object (read bytes)) else None

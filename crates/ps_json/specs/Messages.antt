@@ -12,7 +12,7 @@ use Rattle.ps_json.specs.Times.{moment_data}
 abbrev pub message_id : ℕ → Data
 message_id number = string (decimal number)
 
--- so many numbers, one after another
+-- this many numbers, one after another
 abbrev pub numbers_from : ℕ → ℕ → List ℕ
 numbers_from first zero = []
 numbers_from first (suc n) = first ∷ numbers_from (first + 1) n

@@ -3,11 +3,11 @@ use Rattle.std.specs.Prelude.{ℕ, List, [], ◌∷◌, Bool, true, if◌then◌
 use Rattle.serde_json.specs.Data.{Data, number, unsigned, boolean, string, array, object, Members, no_members, put}
 use Rattle.serde_json.specs.View.{items_of}
 
--- a name, and its value where it has one
+-- a name, and its value if it has one
 abbrev pub Field : Type 0
 Field = List ℕ × Option Data
 
--- the members with that one in its place, where it has a value
+-- the members with that one in its place, if it has a value
 abbrev pub with_field : List ℕ → Option Data → Members → Members
 with_field name None ms = ms
 with_field name (Some d) ms = put name d ms
@@ -40,7 +40,7 @@ filled_list (d ∷ ds) = Some (array (items_of (d ∷ ds)))
 abbrev pub label_members : List (List ℕ × List ℕ) → Members
 label_members pairs = fold (λ ms p. put p.0 (string p.1) ms) no_members pairs
 
--- texts by key, where there are any
+-- texts by key, if there are any
 abbrev pub filled_labels : List (List ℕ × List ℕ) → Option Data
 filled_labels [] = None
 filled_labels (p ∷ ps) = Some (object (label_members (p ∷ ps)))

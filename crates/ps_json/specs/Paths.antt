@@ -1,4 +1,4 @@
--- The paths of fields, as refusals tell them.
+-- The paths of fields, as refusals name them.
 use Rattle.std.specs.Prelude.{ℕ, List, ◌++◌, codes, decimal}
 use Rattle.ps_json.specs.declared.paths.Place.{Place}
 use Rattle.ps_json.specs.declared.paths.Place.TheVariants.{Body, Message}

@@ -21,7 +21,7 @@ use Rattle.ps_json.specs.Tables.{unknown_paths}
 abbrev pub items_in : Members → List Data
 items_in ms = unwrap_or (list_of (get_member (codes "messages") ms)) []
 
--- the fields of an item; none where it is no object
+-- the fields of an item; none if it is no object
 abbrev pub members_in : Data → Members
 members_in item = unwrap_or (as_object item) no_members
 

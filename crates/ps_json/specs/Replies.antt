@@ -1,4 +1,4 @@
--- What answers calls: bodies and codes, and the lines that tell them.
+-- What answers calls: bodies and codes, and their lines.
 use Rattle.std.specs.Prelude.{ℕ, List, [], ◌∷◌, ◌++◌, Option, option_map, map, codes}
 use Rattle.serde_json.specs.Data.{Data, number, unsigned, string, array, object, member, no_members}
 use Rattle.serde_json.specs.View.{items_of}
@@ -45,7 +45,7 @@ abbrev pub details_data : List Data → Data
 details_data details =
     object (member (codes "error") (object (member (codes "code") (number (unsigned 400)) (member (codes "details") (array (items_of details)) (member (codes "message") (string (codes "ack ids")) (member (codes "status") (string (codes "FAILED_PRECONDITION")) no_members))))) no_members)
 
--- what is told of details; without one all is well
+-- the body that says them; `{}` if there are none
 abbrev pub acked_data : List Data → Data
 acked_data [] = object no_members
 acked_data (d ∷ ds) = details_data (d ∷ ds)
@@ -68,7 +68,7 @@ page_fields items next = items_field items ∷ (codes "nextPageToken", option_ma
 abbrev pub page_data : PageItems → Option (List ℕ) → Data
 page_data items next = object_of (page_fields items next)
 
--- the body that tells a reply
+-- the body of a reply
 unfoldable pub body_of : Reply → Data
 body_of Empty = object no_members
 body_of (Topic topic) = topic_data topic
@@ -81,7 +81,7 @@ body_of (Acked exactly_once invalid unordered) = acked_data (details_of invalid 
 body_of (Modified exactly_once invalid) = acked_data (details_of invalid [])
 body_of (Refused refused) = refusal_data refused
 
--- the code of a reply: a refusal's own, 400 where ack ids did nothing, and else 200
+-- the code of a reply: a refusal's own, 400 if ack ids did nothing, and else 200
 abbrev pub code_of : Reply → ℕ
 code_of (Refused refused) = refusal.code_of refused
 code_of (Acked exactly_once invalid unordered) = acked_code (details_of invalid unordered)

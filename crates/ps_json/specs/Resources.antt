@@ -23,7 +23,7 @@ topic_data t = object_of (topic_fields t)
 abbrev pub topic_name_data : Option (List ℕ) → Data
 topic_name_data topic = string (unwrap_or topic (codes "_deleted-topic_"))
 
--- after how long without use it ends; nothing where it never does
+-- after how long without use it ends; nothing if it never does
 abbrev pub expiration_fields : Option ℕ → List Field
 expiration_fields ttl = (codes "ttl", option_map duration_data ttl) ∷ []
 
@@ -58,7 +58,7 @@ setting_fields s =
     ∷ (codes "topic", Some (topic_name_data s.topic))
     ∷ []
 
--- shown where they hold
+-- shown if they hold
 abbrev pub flag_fields : SubShown → List Field
 flag_fields s =
     (codes "detached", flag s.detached)
@@ -67,7 +67,7 @@ flag_fields s =
     ∷ (codes "retainAckedMessages", flag s.config.retain_acked)
     ∷ []
 
--- shown where they are set
+-- shown if they are set
 abbrev pub policy_fields : SubShown → List Field
 policy_fields s =
     (codes "deadLetterPolicy", option_map dead_letter_data s.config.dead_letter)

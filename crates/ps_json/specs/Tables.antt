@@ -1,27 +1,12 @@
 -- Which fields an object may have, and those that no table lists.
 use Rattle.std.specs.Prelude.{ℕ, List, [], ◌∷◌, map, filter, fold, Bool, true, ◌&&◌, not, codes, if◌then◌else◌, Option, Some, None}
-use Rattle.std.specs.List.{list_any}
-use Rattle.std.specs.Str.{bytes_eq}
 use Rattle.serde_json.specs.Data.{Data, Members}
 use Rattle.ps_base.specs.Keys.{is_below}
-use Rattle.ps_json.specs.declared.call.CallKind.{CallKind}
-use Rattle.ps_json.specs.declared.call.CallKind.TheVariants.{CreateTopic, CreateSubscription, Publish, Pull, Acknowledge}
 use Rattle.ps_json.specs.declared.tables.Table.{Table}
 use Rattle.ps_json.specs.declared.tables.Table.TheVariants as table
 use Rattle.ps_json.specs.declared.paths.Place.{Place}
-use Rattle.ps_json.specs.Fields.{is_null, pairs_of}
+use Rattle.ps_json.specs.Fields.{is_null, is_one_of, pairs_of}
 use Rattle.ps_json.specs.Paths.{path_in}
-
-abbrev pub is_one_of : List (List ℕ) → List ℕ → Bool
-is_one_of names name = list_any (bytes_eq name) names
-
--- the fields of a body that a call reads; a creation refuses each other one where it is filled
-abbrev pub is_built : CallKind → List ℕ → Bool
-is_built CreateTopic name = is_one_of (codes "name" ∷ []) name
-is_built CreateSubscription name = is_one_of (codes "name" ∷ codes "topic" ∷ []) name
-is_built Publish name = true
-is_built Pull name = true
-is_built Acknowledge name = true
 
 -- the fields that are settings of a subscription, and those that name or show it
 abbrev pub subscription_fields : List (List ℕ)
@@ -46,7 +31,7 @@ is_unknown table field = not (is_null field.1) && not (is_one_of (fields_of tabl
 abbrev pub unknown_paths : Table → Place → Members → List (List ℕ)
 unknown_paths table place ms = map (λ field. path_in place field.0) (filter (is_unknown table) (pairs_of ms))
 
--- the lesser of two paths in byte order, where there are two
+-- the lesser of two paths in byte order, if there are two
 abbrev pub lesser : Option (List ℕ) → List ℕ → Option (List ℕ)
 lesser None path = Some path
 lesser (Some least) path = Some (if is_below path least then path else least)

@@ -3,7 +3,7 @@ use Rattle.std.specs.Prelude.{ℕ, ◌/◌, ◌%◌, nat_eq, List, ◌++◌, cod
 use Rattle.serde_json.specs.Data.{Data, string}
 use Rattle.ps_model.specs.Timestamps.{Date, three_digits, timestamp}
 
--- milliseconds as seconds: `600s`, or with three decimals where they are no whole seconds, `1.500s`
+-- milliseconds as seconds: `600s`, or with three decimals if they aren't whole seconds, `1.500s`
 abbrev pub duration_text : ℕ → List ℕ
 duration_text ms =
     if nat_eq (ms % 1000) 0 then decimal (ms / 1000) ++ codes "s"

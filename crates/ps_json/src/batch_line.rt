@@ -18,11 +18,11 @@ pub struct BatchLine {
     pub at: u64,
     pub verb: String,
     pub path: String,
-    /// `{}` where the line has none.
+    /// `{}` if the line has none.
     pub body: Value,
 }
 
-/// The line that these bytes are. None where they are no line.
+/// The line that these bytes are. None if they are no line.
 pub fn read_batch_line(alloc: Global, bytes: &[u8]) -> Result<Option<BatchLine>, OutOfMemory>
     ensures { IfOk result (λ line. option_map shown line ≡ line_of bytes.now) }
 {
@@ -64,7 +64,7 @@ fn from_fields(alloc: Global, mut fields: Map<String, Value>) -> Option<BatchLin
     })
 }
 
-// The field `body`, or `{}` where it is absent or null.
+// The field `body`, or `{}` if it is absent or null.
 fn take_body(alloc: Global, fields: &mut Map<String, Value>) -> Value
     ensures { view result
         ≡ body_or_empty (get_member (codes "body") (members_view fields.old.entries)) }

@@ -1,12 +1,10 @@
 // The fields of a JSON object.
-ghost use Rattle.std.specs.Prelude.{◌≡◌, option_map, string_bytes};
+ghost use Rattle.std.specs.Prelude.{◌≡◌, map, option_map, string_bytes};
 ghost use Rattle.serde_json.specs.Find.{get_member};
 ghost use Rattle.serde_json.specs.View.{view, members_view};
-ghost use Rattle.ps_json.specs.Fields.{without, whole_field, text_field};
+ghost use Rattle.ps_json.specs.Fields.{is_one_of, without, whole_field, text_field};
 ghost use Rattle.ps_json.specs.Fields as spec;
-ghost use Rattle.ps_json.specs.Tables.{is_built};
 
-use crate::call::CallKind;
 use serde_json::{Map, Value};
 
 /// The field's value.
@@ -26,7 +24,7 @@ pub fn take(fields: &mut Map<String, Value>, name: &str) -> Option<Value>
     fields.remove(name)
 }
 
-/// Takes the field out, and gives its number where it is one that fits.
+/// Takes the field out, and gives its number if it is one that fits.
 pub fn take_whole(fields: &mut Map<String, Value>, name: &str) -> Option<u64>
     ensures value { result ≡ whole_field name.now (members_view fields.old.entries) }
     ensures rest { members_view fields.new.entries
@@ -36,7 +34,7 @@ pub fn take_whole(fields: &mut Map<String, Value>, name: &str) -> Option<u64>
     value.as_u64()
 }
 
-/// Takes the field out, and gives its text where it is one.
+/// Takes the field out, and gives its text if it is one.
 pub fn take_text(fields: &mut Map<String, Value>, name: &str) -> Option<String>
     ensures value { option_map string_bytes result
         ≡ text_field name.now (members_view fields.old.entries) }
@@ -63,15 +61,21 @@ pub fn is_filled(value: &Value) -> bool
     }
 }
 
-/// The least name whose field is filled and isn't built for the call.
-pub fn first_filled<'a>(call: CallKind, fields: &'a Map<String, Value>) -> Option<&'a str>
+/// The least name whose field is filled and is none of these, which are built.
+pub fn first_filled<'a>(built: &[&str], fields: &'a Map<String, Value>) -> Option<&'a str>
     ensures { option_map (λ t. t.now) result
-        ≡ spec.first_filled (is_built call) (members_view fields.now.entries) }
+        ≡ spec.first_filled (map (λ name. name.now) built.now) (members_view fields.now.entries) }
 {
     for (key, value) in fields.iter() {
-        if !call.is_built(key.as_str()) && is_filled(value) {
+        if !is_one_of(built, key.as_str()) && is_filled(value) {
             return Some(key.as_str());
         }
     }
     None
+}
+
+fn is_one_of(names: &[&str], name: &str) -> bool
+    ensures { result ≡ is_one_of (map (λ name. name.now) names.now) name.now }
+{
+    names.contains(&name)
 }

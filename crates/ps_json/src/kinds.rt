@@ -1,4 +1,4 @@
-// The kinds of fields: what a field's value stands for, and `None` where it is of another kind. A field that is
+// The kinds of fields: what a field's value stands for, and `None` if it is of another kind. A field that is
 // absent or null has its default.
 ghost use Rattle.std.specs.Prelude.{◌≡◌, true, IfOk, IfSome, map, option_map};
 ghost use Rattle.std.specs.Result.{result_ok};
@@ -63,7 +63,7 @@ fn whole_text(text: &str) -> Option<i64>
 }
 
 /// The bytes of a base64 text in the standard or the URL-safe alphabet, with its padding or with none, and no
-/// bytes by default. Only memory can be wanting.
+/// bytes by default. Fails only if out of memory.
 pub fn bytes(
     alloc: Global,
     fields: &Map<String, Value>,
@@ -108,7 +108,7 @@ fn decoded(
     }
 }
 
-/// The texts of an object by their keys, and none by default. Only memory can be wanting.
+/// The texts of an object by their keys, and none by default. Fails only if out of memory.
 pub fn map(
     alloc: Global,
     fields: &Map<String, Value>,

@@ -13,11 +13,6 @@ mod reply;
 mod tables;
 
 pub use batch_line::{BatchLine, read_batch_line};
-pub use call::{CallKind, command};
+pub use call::{CallKind, command, unbuilt};
 pub use read_error::ReadError;
 pub use reply::{code, no_line, print_reply, refusal_line, value};
-
-#[cfg(test)]
-mod command_tests;
-#[cfg(test)]
-mod reply_tests;

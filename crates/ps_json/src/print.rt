@@ -17,16 +17,16 @@ use std::alloc::Global;
 /// What replies show as JSON.
 pub trait Shown {
     /// What it is shown as.
-    ghost told: { Self → Data };
+    ghost shown_as: { Self → Data };
 
-    /// The value that shows it. Only memory can be wanting.
+    /// The value that shows it. Fails only if out of memory.
     fn to_value(&self, alloc: Global) -> Result<Value, OutOfMemory>
-        ensures { IfOk result (λ value. view value ≡ told self.now) };
+        ensures { IfOk result (λ value. view value ≡ shown_as self.now) };
 }
 
 /// The values that show these, in their order.
 pub fn values<T: Shown>(alloc: Global, items: &[T]) -> Result<Vec<Value>, OutOfMemory>
-    ensures { IfOk result (λ values. map view values.items ≡ map T.told items.now) }
+    ensures { IfOk result (λ values. map view values.items ≡ map T.shown_as items.now) }
 {
     let mut values = Vec::new(alloc);
     for item in items {

@@ -33,7 +33,7 @@ pub fn refused(reason: Reason) -> ReadError
     ReadError::Refused(Refusal::InvalidArgument(reason))
 }
 
-/// The error of a body with another kind of value in this field. Only memory can be wanting.
+/// The error of a body with another kind of value in this field. Fails only if out of memory.
 pub fn shape(alloc: Global, name: &str) -> Result<ReadError, OutOfMemory>
     ensures { IfOk result (λ e. e ≡ error.Refused (InvalidArgument (reason.Shape name.now))) }
 {

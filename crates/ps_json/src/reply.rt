@@ -13,7 +13,7 @@ use ps_model::Reply;
 use serde_json::{Map, Value, json};
 use std::alloc::{AllocError, Global};
 
-/// The body that tells a reply.
+/// The body of a reply.
 #[tactic(auto, unfolding(crate::specs::Replies::body_of))]
 pub fn value(alloc: Global, reply: &Reply) -> Result<Value, OutOfMemory>
     ensures { IfOk result (λ value. view value ≡ body_of reply.now) }
@@ -36,7 +36,7 @@ pub fn value(alloc: Global, reply: &Reply) -> Result<Value, OutOfMemory>
     }
 }
 
-/// The code of a reply: 200, a refusal's own, or 400 where ack ids did nothing.
+/// The code of a reply: 200, a refusal's own, or 400 if ack ids did nothing.
 pub fn code(reply: &Reply) -> u16
     ensures { result ≡ code_of reply.now }
 {
@@ -60,7 +60,7 @@ pub fn print_reply(alloc: Global, reply: &Reply) -> Result<Octets, OutOfMemory>
     reply_line(alloc, code(reply), body)
 }
 
-/// The line that tells a refusal.
+/// The line of a refusal.
 pub fn refusal_line(alloc: Global, refusal: &Refusal) -> Result<Octets, OutOfMemory>
     ensures { IfOk result (λ text. text ≡ refusal_text refusal.now) }
 {

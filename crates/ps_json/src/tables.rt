@@ -1,7 +1,8 @@
 // Which fields an object may have, and those that no table lists.
 ghost use Rattle.std.specs.Prelude.{◌≡◌, IfOk, fold};
 ghost use Rattle.serde_json.specs.View.{view, members_view};
-ghost use Rattle.ps_json.specs.Tables.{fields_of, is_one_of, is_unknown, least, lesser, subscription_fields, unknown_paths};
+ghost use Rattle.ps_json.specs.Fields.{is_one_of};
+ghost use Rattle.ps_json.specs.Tables.{fields_of, is_unknown, least, lesser, subscription_fields, unknown_paths};
 
 use crate::paths::{Place, path_in};
 use ps_base::{OutOfMemory, Text};
@@ -65,7 +66,7 @@ fn is_field_of_subscription(name: &str) -> bool
     )
 }
 
-/// The least path in byte order of the fields of a body that its table doesn't list. Only memory can be wanting.
+/// The least path in byte order of the fields of a body that its table doesn't list. Fails only if out of memory.
 pub fn least_unknown(
     alloc: Global,
     table: Table,
@@ -77,8 +78,7 @@ pub fn least_unknown(
     least_with(alloc, table, Place::Body, fields, None)
 }
 
-/// The least of a path and the paths of the unknown fields of an object that stands there. Only memory can be
-/// wanting.
+/// The least of a path and the paths of the unknown fields of an object that stands there. Fails only if out of memory.
 pub fn least_with(
     alloc: Global,
     table: Table,
@@ -104,7 +104,7 @@ fn is_unknown(table: Table, name: &str, value: &Value) -> bool
     !value.is_null() && !table.lists(name)
 }
 
-/// The lesser of two paths in byte order, where there are two.
+/// The lesser of two paths in byte order, if there are two.
 fn lesser(least: Option<Text>, path: Text) -> Text
     ensures { Some result ≡ lesser least path }
 {

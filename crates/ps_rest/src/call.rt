@@ -4,8 +4,7 @@ ghost use Rattle.ps_json.specs.Checks.{Reads};
 ghost use Rattle.ps_rest.specs.Calls.{asked_by, asked_at};
 
 use crate::route::{Route, route_of};
-use ps_base::{Refusal, Text};
-use ps_json::{ReadError, command};
+use ps_json::{ReadError, command, unbuilt};
 use ps_model::Command;
 use serde_json::Value;
 use std::alloc::Global;
@@ -29,9 +28,6 @@ fn command_at(alloc: Global, route: Option<Route>, body: &Value) -> Result<Comma
 {
     match route {
         Some(route) => command(alloc, route.call, route.name.as_str(), body),
-        None => {
-            let message = Text::from_str(alloc, "route")?;
-            Err(ReadError::Refused(Refusal::Unimplemented(message)))
-        }
+        None => Err(unbuilt(alloc)?),
     }
 }

@@ -1,5 +1,5 @@
 // Which call a line's verb and path name.
-ghost use Rattle.std.specs.Prelude.{◌≡◌, IfOk, map, option_map};
+ghost use Rattle.std.specs.Prelude.{◌≡◌, Some, IfOk, map};
 ghost use Rattle.std.specs.List.{list_all};
 ghost use Rattle.ps_rest.specs.Routes as spec;
 
@@ -8,21 +8,27 @@ use ps_json::CallKind;
 use ps_names::parts_of;
 use std::alloc::Global;
 
-/// A call, and the name of the resource that it is made on.
+/// A call, and the name of the resource that it is made on: the project, for the list of a whole collection.
 #[derive(Drop)]
 pub struct Route {
     pub call: CallKind,
     pub name: Text,
 }
 
-/// The last part of a path: an id, and behind its first `:` a custom verb.
+/// What a path names in a collection of a project.
 #[derive(Clone, Copy)]
-struct Last<'a> {
-    id: &'a str,
-    method: Option<&'a str>,
+enum Target<'a> {
+    /// The whole collection.
+    Collection,
+    /// A resource.
+    Resource,
+    /// A resource, and behind a `:` a custom verb.
+    Custom(&'a str),
+    /// A resource, and behind a `/` a list that belongs to it.
+    Sublist(&'a str),
 }
 
-/// The call of this verb and path. None where no call has them.
+/// The call of this verb and path. None if no call has them.
 pub fn route_of(alloc: Global, verb: &str, path: &str) -> Result<Option<Route>, OutOfMemory>
     ensures { IfOk result (λ route. route ≡ spec.route_of verb.now path.now) }
 {
@@ -46,103 +52,103 @@ fn route_at(alloc: Global, verb: &str, parts: &[&str]) -> Result<Option<Route>, 
     ensures { IfOk result (λ route. route ≡ spec.route_at verb.now (map (λ part. part.now) parts.now)) }
 {
     match parts {
-        [projects, project, collection, last] => {
-            if *projects != "projects" {
-                return Ok(None);
-            }
-            route_to(alloc, verb, project, collection, split_last(last))
-        }
+        [projects, rest @ ..] if *projects == "projects" => route_in(alloc, verb, rest),
         _ => Ok(None),
     }
 }
 
-/// The route to the resource of this collection.
-fn route_to(
-    alloc: Global,
-    verb: &str,
-    project: &str,
-    collection: &str,
-    last: Last<'_>,
-) -> Result<Option<Route>, OutOfMemory>
-    ensures { IfOk result (λ route. route
-        ≡ option_map (spec.route_to (spec.name_at project.now collection.now last.entry.id.now))
-        (spec.kind_of verb.now collection.now (option_map (λ method. method.now) last.entry.method))) }
+/// The route to what these parts name, which stand behind `projects`.
+fn route_in(alloc: Global, verb: &str, parts: &[&str]) -> Result<Option<Route>, OutOfMemory>
+    ensures { IfOk result (λ route. route ≡ spec.route_in verb.now (map (λ part. part.now) parts.now)) }
 {
-    let Some(call) = kind_of(verb, collection, last.method) else {
-        return Ok(None);
-    };
-    let name = name_at(alloc, project, collection, last.id)?;
+    match parts {
+        [project, collection] => match call_of(verb, collection, Target::Collection) {
+            Some(call) => to_project(alloc, call, project),
+            None => Ok(None),
+        },
+        [project, collection, last] => match call_of(verb, collection, target_of(last)) {
+            Some(call) => to_resource(alloc, call, project, collection, id_of(last)),
+            None => Ok(None),
+        },
+        [project, collection, id, list] => match call_of(verb, collection, Target::Sublist(list)) {
+            Some(call) => to_resource(alloc, call, project, collection, id),
+            None => Ok(None),
+        },
+        _ => Ok(None),
+    }
+}
+
+fn to_project(alloc: Global, call: CallKind, project: &str) -> Result<Option<Route>, OutOfMemory>
+    ensures { IfOk result (λ route. route ≡ Some (spec.route_to (spec.project_at project.now) call)) }
+{
+    let name = Text::from_string(format!(in alloc; "projects/{project}")?);
     Ok(Some(Route { call, name }))
 }
 
-fn name_at(alloc: Global, project: &str, collection: &str, id: &str) -> Result<Text, OutOfMemory>
-    ensures { IfOk result (λ name. name ≡ spec.name_at project.now collection.now id.now) }
+fn to_resource(
+    alloc: Global,
+    call: CallKind,
+    project: &str,
+    collection: &str,
+    id: &str,
+) -> Result<Option<Route>, OutOfMemory>
+    ensures { IfOk result (λ route. route
+        ≡ Some (spec.route_to (spec.name_at project.now collection.now id.now) call)) }
 {
-    Ok(Text::from_string(format!(in alloc; "projects/{project}/{collection}/{id}")?))
+    let name = Text::from_string(format!(in alloc; "projects/{project}/{collection}/{id}")?);
+    Ok(Some(Route { call, name }))
 }
 
-fn split_last(last: &str) -> Last<'_>
-    ensures id { result.id.now ≡ spec.id_of last.now }
-    ensures method { option_map (λ method. method.now) result.method ≡ spec.method_of last.now }
+/// What stands before the first `:` of a path's last part.
+fn id_of(last: &str) -> &str
+    ensures { result.now ≡ spec.id_of last.now }
 {
     match last.split_once(':') {
-        Some((id, method)) => Last {
-            id,
-            method: Some(method),
-        },
-        None => Last {
-            id: last,
-            method: None,
-        },
+        Some((id, _)) => id,
+        None => last,
     }
 }
 
-/// The call of a verb on a resource of this collection, without a custom verb or with one.
-fn kind_of(verb: &str, collection: &str, method: Option<&str>) -> Option<CallKind>
-    ensures { result ≡ spec.kind_of verb.now collection.now (option_map (λ method. method.now) method.entry) }
+/// A resource with the custom verb behind the first `:`, if there is one.
+fn target_of(last: &str) -> Target<'_>
+    ensures { spec.target_in result ≡ spec.target_of last.now }
 {
-    match method {
-        None if verb == "PUT" => made_in(collection),
-        Some(method) if verb == "POST" => asked_in(collection, method),
-        _ => None,
+    match last.split_once(':') {
+        Some((_, verb)) => Target::Custom(verb),
+        None => Target::Resource,
     }
 }
 
-fn made_in(collection: &str) -> Option<CallKind>
-    ensures { result ≡ spec.made_in collection.now }
+/// The call of this verb on a target in this collection. Each call is a row here.
+fn call_of(verb: &str, collection: &str, target: Target<'_>) -> Option<CallKind>
+    ensures { result ≡ spec.call_of verb.now collection.now (spec.target_in target.entry) }
 {
-    match collection {
-        "topics" => Some(CallKind::CreateTopic),
-        "subscriptions" => Some(CallKind::CreateSubscription),
-        _ => None,
-    }
-}
-
-fn asked_in(collection: &str, method: &str) -> Option<CallKind>
-    ensures { result ≡ spec.asked_in collection.now method.now }
-{
-    match collection {
-        "topics" => asked_of_topic(method),
-        "subscriptions" => asked_of_subscription(method),
-        _ => None,
-    }
-}
-
-fn asked_of_topic(method: &str) -> Option<CallKind>
-    ensures { result ≡ spec.asked_of_topic method.now }
-{
-    match method {
-        "publish" => Some(CallKind::Publish),
-        _ => None,
-    }
-}
-
-fn asked_of_subscription(method: &str) -> Option<CallKind>
-    ensures { result ≡ spec.asked_of_subscription method.now }
-{
-    match method {
-        "pull" => Some(CallKind::Pull),
-        "acknowledge" => Some(CallKind::Acknowledge),
-        _ => None,
-    }
+    let call = match (verb, collection, target) {
+        ("PUT", "topics", Target::Resource) => CallKind::CreateTopic,
+        ("PATCH", "topics", Target::Resource) => CallKind::UpdateTopic,
+        ("GET", "topics", Target::Resource) => CallKind::GetTopic,
+        ("DELETE", "topics", Target::Resource) => CallKind::DeleteTopic,
+        ("GET", "topics", Target::Collection) => CallKind::ListTopics,
+        ("GET", "topics", Target::Sublist("subscriptions")) => CallKind::ListTopicSubscriptions,
+        ("GET", "topics", Target::Sublist("snapshots")) => CallKind::ListTopicSnapshots,
+        ("POST", "topics", Target::Custom("publish")) => CallKind::Publish,
+        ("PUT", "subscriptions", Target::Resource) => CallKind::CreateSubscription,
+        ("PATCH", "subscriptions", Target::Resource) => CallKind::UpdateSubscription,
+        ("GET", "subscriptions", Target::Resource) => CallKind::GetSubscription,
+        ("DELETE", "subscriptions", Target::Resource) => CallKind::DeleteSubscription,
+        ("GET", "subscriptions", Target::Collection) => CallKind::ListSubscriptions,
+        ("POST", "subscriptions", Target::Custom("pull")) => CallKind::Pull,
+        ("POST", "subscriptions", Target::Custom("acknowledge")) => CallKind::Acknowledge,
+        ("POST", "subscriptions", Target::Custom("modifyAckDeadline")) =>
+            CallKind::ModifyAckDeadline,
+        ("POST", "subscriptions", Target::Custom("seek")) => CallKind::Seek,
+        ("POST", "subscriptions", Target::Custom("detach")) => CallKind::Detach,
+        ("PUT", "snapshots", Target::Resource) => CallKind::CreateSnapshot,
+        ("PATCH", "snapshots", Target::Resource) => CallKind::UpdateSnapshot,
+        ("GET", "snapshots", Target::Resource) => CallKind::GetSnapshot,
+        ("DELETE", "snapshots", Target::Resource) => CallKind::DeleteSnapshot,
+        ("GET", "snapshots", Target::Collection) => CallKind::ListSnapshots,
+        _ => return None,
+    };
+    Some(call)
 }

@@ -52,7 +52,7 @@ fn first_without_text(items: &[Value]) -> Option<usize>
     items.iter().position(|item| !item.is_string())
 }
 
-/// The ids that these items are, where there is one and each is one. Only memory can be wanting.
+/// The ids that these items are, if there is one and each is one. Fails only if out of memory.
 fn read_ids(alloc: Global, items: &[Value]) -> Result<Option<List<AckId>>, OutOfMemory>
     ensures { IfOk result (λ ids. ids ≡ ids_read (map view items.now)) }
 {

@@ -74,7 +74,7 @@ fn read_message(alloc: Global, place: usize, item: &Value) -> Result<Message, Re
     })
 }
 
-/// The least path of an unknown field of the body or of a message. Only memory can be wanting.
+/// The least path of an unknown field of the body or of a message. Fails only if out of memory.
 fn least_unknown_of_all(
     alloc: Global,
     fields: &Map<String, Value>,

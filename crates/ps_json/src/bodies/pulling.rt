@@ -8,16 +8,11 @@ use crate::kinds::{flag, whole};
 use crate::read_error::{ReadError, refused, shape};
 use crate::tables::{Table, least_unknown};
 use ps_base::Reason;
+use ps_message::{MOST_BYTES, MOST_MESSAGES};
 use ps_model::Command;
 use ps_names::SubName;
 use serde_json::{Map, Value};
 use std::alloc::Global;
-
-/// The most messages of one pull.
-const MOST_MESSAGES: u32 = 1000;
-
-/// A pull ends before a message where those before it have so many bytes.
-const BUDGET: u64 = 10_000_000;
 
 /// The command that pulls from the subscription of this name, or the first check that is broken.
 pub fn pull(alloc: Global, name: &str, fields: &Map<String, Value>) -> Result<Command, ReadError>
@@ -42,15 +37,15 @@ pub fn pull(alloc: Global, name: &str, fields: &Map<String, Value>) -> Result<Co
     }
     Ok(Command::Pull {
         subscription,
-        max: at_most_thousand(max),
-        budget: BUDGET,
+        max: pull_size(max),
+        budget: MOST_BYTES,
         seconds: None,
     })
 }
 
-/// The number, or 1,000 where it is more and 0 where it is negative.
-fn at_most_thousand(max: i64) -> u32
-    ensures { result ≡ spec.at_most_thousand max }
+/// The number, or the most messages of a pull if it is more, and 0 if it is negative.
+fn pull_size(max: i64) -> u32
+    ensures { result ≡ spec.pull_size max }
 {
     u32::try_from(max.max(0))
         .unwrap_or(MOST_MESSAGES)

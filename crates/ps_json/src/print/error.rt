@@ -13,7 +13,7 @@ const INVALID: &str = "PERMANENT_FAILURE_INVALID_ACK_ID";
 
 const UNORDERED: &str = "UNORDERED_ACK_ID";
 
-/// The body that tells a refusal.
+/// The body of a refusal.
 pub fn refused(alloc: Global, refusal: &Refusal) -> Result<Value, OutOfMemory>
     ensures { IfOk result (λ value. view value ≡ refusal_data refusal.now) }
 {
@@ -33,7 +33,7 @@ pub fn error_value(
     json!(in alloc; {"error": {"code": code, "message": message, "status": status}})
 }
 
-/// The body that tells which ack ids did nothing.
+/// The body that says which ack ids did nothing.
 pub fn acked(alloc: Global, invalid: &[AckId], unordered: &[AckId]) -> Result<Value, OutOfMemory>
     ensures { IfOk result (λ value. view value ≡ acked_data (details_of invalid.now unordered.now)) }
 {

@@ -8,7 +8,7 @@ use ps_base::{Labels, OutOfMemory, Text};
 use serde_json::{Map, Value};
 use std::alloc::Global;
 
-/// Adds the field where it has a value. Only memory can be wanting.
+/// Adds the field if it has a value. Fails only if out of memory.
 pub fn put_field(
     fields: &mut Map<String, Value>,
     alloc: Global,
@@ -24,7 +24,7 @@ pub fn put_field(
     Ok(())
 }
 
-/// The text, where it isn't empty.
+/// The text, if it isn't empty.
 pub fn filled_text(alloc: Global, text: &str) -> Result<Option<Value>, OutOfMemory>
     ensures { IfOk result (λ value. option_map view value ≡ filled_text text.now) }
 {
@@ -34,14 +34,14 @@ pub fn filled_text(alloc: Global, text: &str) -> Result<Option<Value>, OutOfMemo
     Ok(Some(Value::try_from_str(alloc, text)?))
 }
 
-/// The flag, where it is set.
+/// The flag, if it is set.
 pub fn flag(set: bool) -> Option<Value>
     ensures { option_map view result ≡ spec.flag set }
 {
     if set { Some(Value::Bool(true)) } else { None }
 }
 
-/// The list, where it isn't empty.
+/// The list, if it isn't empty.
 pub fn filled_list(items: Vec<Value>) -> Option<Value>
     ensures { option_map view result ≡ filled_list (map view items.items) }
 {
@@ -52,7 +52,7 @@ pub fn filled_list(items: Vec<Value>) -> Option<Value>
     }
 }
 
-/// The labels, where there are any.
+/// The labels, if there are any.
 pub fn filled_labels(alloc: Global, labels: &Labels) -> Result<Option<Value>, OutOfMemory>
     ensures { IfOk result (λ value. option_map view value ≡ filled_labels labels.now) }
 {

@@ -14,7 +14,7 @@ use ps_model::ReceivedMessage;
 use serde_json::{Map, Value};
 use std::alloc::Global;
 
-/// The body that tells what was published.
+/// The body that says what was published.
 pub fn published(alloc: Global, first: u64, number: u32) -> Result<Value, OutOfMemory>
     ensures { IfOk result (λ value. view value ≡ published_data first number) }
 {
@@ -24,7 +24,7 @@ pub fn published(alloc: Global, first: u64, number: u32) -> Result<Value, OutOfM
     Ok(Value::Object(fields))
 }
 
-/// The body that tells what was handed out.
+/// The body that says what was handed out.
 pub fn received(alloc: Global, items: &[ReceivedMessage]) -> Result<Value, OutOfMemory>
     ensures { IfOk result (λ value. view value ≡ received_list_data items.now) }
 {
@@ -45,7 +45,7 @@ pub fn ack_id(alloc: Global, id: AckId) -> Result<Value, OutOfMemory>
 impl Shown for ReceivedMessage {
     ghost use Rattle.ps_json.specs.Messages.{received_data};
 
-    ghost told = { received_data };
+    ghost shown_as = { received_data };
 
     fn to_value(&self, alloc: Global) -> Result<Value, OutOfMemory> {
         let id = ack_id(alloc, self.id)?;
@@ -77,7 +77,7 @@ fn message(alloc: Global, received: &ReceivedMessage) -> Result<Value, OutOfMemo
     Ok(Value::Object(fields))
 }
 
-// The payload, where it isn't empty.
+// The payload, if it isn't empty.
 fn payload(alloc: Global, bytes: &[u8]) -> Result<Option<Value>, OutOfMemory>
     ensures { IfOk result (λ value. option_map view value ≡ payload_data bytes.now) }
 {
@@ -94,7 +94,7 @@ fn message_id(alloc: Global, number: u128) -> Result<Value, OutOfMemory>
     Ok(Value::String(format!(in alloc; "{number}")?))
 }
 
-// So many numbers of messages, one after another.
+// This many numbers of messages, one after another.
 fn message_ids(alloc: Global, first: u64, number: u32) -> Result<Vec<Value>, OutOfMemory>
     ensures { IfOk result (λ ids. map view ids.items ≡ map message_id (numbers_from first number)) }
 {

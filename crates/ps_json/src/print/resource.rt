@@ -15,7 +15,7 @@ use std::alloc::Global;
 impl Shown for TopicShown {
     ghost use Rattle.ps_json.specs.Resources.{topic_data};
 
-    ghost told = { topic_data };
+    ghost shown_as = { topic_data };
 
     fn to_value(&self, alloc: Global) -> Result<Value, OutOfMemory> {
         let labels = filled_labels(alloc, &self.config.labels)?;
@@ -32,7 +32,7 @@ impl Shown for TopicShown {
 impl Shown for SnapShown {
     ghost use Rattle.ps_json.specs.Resources.{snapshot_data};
 
-    ghost told = { snapshot_data };
+    ghost shown_as = { snapshot_data };
 
     fn to_value(&self, alloc: Global) -> Result<Value, OutOfMemory> {
         let mut fields = Map::new(alloc);
@@ -51,7 +51,7 @@ impl Shown for SnapShown {
 impl Shown for Text {
     ghost use Rattle.serde_json.specs.Data.{string};
 
-    ghost told = { string };
+    ghost shown_as = { string };
 
     fn to_value(&self, alloc: Global) -> Result<Value, OutOfMemory> {
         Ok(Value::try_from_str(alloc, self.as_str())?)
@@ -69,7 +69,7 @@ pub fn topic_name(alloc: Global, topic: &Option<Text>) -> Result<Value, OutOfMem
     Ok(Value::try_from_str(alloc, name)?)
 }
 
-/// The duration, where one is set.
+/// The duration, if one is set.
 pub fn set_duration(alloc: Global, ms: Option<u64>) -> Result<Option<Value>, OutOfMemory>
     ensures { IfOk result (λ value. option_map view value ≡ option_map duration_data ms) }
 {

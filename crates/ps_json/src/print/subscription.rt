@@ -18,7 +18,7 @@ type Fields = Map<String, Value>;
 impl Shown for SubShown {
     ghost use Rattle.ps_json.specs.Resources.{subscription_data};
 
-    ghost told = { subscription_data };
+    ghost shown_as = { subscription_data };
 
     fn to_value(&self, alloc: Global) -> Result<Value, OutOfMemory> {
         let mut fields = Map::new(alloc);
@@ -47,7 +47,7 @@ fn put_settings(fields: &mut Fields, alloc: Global, sub: &SubShown) -> Result<()
     put_field(fields, alloc, "topic", Some(topic))
 }
 
-/// What it shows where it holds.
+/// What it shows if it holds.
 fn put_flags(fields: &mut Fields, alloc: Global, sub: &SubShown) -> Result<(), OutOfMemory>
     ensures { OnOk result (members_view fields.new.entries
         ≡ with_fields (flag_fields sub.now) (members_view fields.old.entries)) }
@@ -61,7 +61,7 @@ fn put_flags(fields: &mut Fields, alloc: Global, sub: &SubShown) -> Result<(), O
     put_field(fields, alloc, "retainAckedMessages", retain_acked)
 }
 
-/// What it shows where it is set.
+/// What it shows if it is set.
 fn put_policies(fields: &mut Fields, alloc: Global, sub: &SubShown) -> Result<(), OutOfMemory>
     ensures { OnOk result (members_view fields.new.entries
         ≡ with_fields (policy_fields sub.now) (members_view fields.old.entries)) }

@@ -75,7 +75,7 @@ struct Day {
     day: u8,
 }
 
-/// The day so many days after 1 January 1970.
+/// The day this many days after 1 January 1970.
 fn date_of(days: u32) -> Day
     requires { days ≤ 2_932_896 }
     ensures date { date_with result.year result.month result.day ≡ date_of days }

@@ -14,7 +14,7 @@ use Rattle.ps_json.specs.declared.read_error.ReadError.TheVariants.{Refused}
 use Rattle.ps_json.specs.Tables.{unknown_paths}
 use Rattle.ps_json.specs.declared.tables.Table.TheVariants as table
 use Rattle.ps_json.specs.declared.paths.Place.TheVariants as place
-use Rattle.ps_json.proofs.CheckLemmas.{told, pass, stop, pass_all, stop_in, good_name, same_name, good_shape, bad_shape, all_known, one_unknown}
+use Rattle.ps_json.proofs.CheckLemmas.{refused_as, pass, stop, pass_all, stop_in, good_name, same_name, good_shape, bad_shape, all_known, one_unknown}
 use Rattle.ps_json.proofs.DeliveryLemmas.{id_shapes}
 use Rattle.ps_json.proofs.bodies.acknowledging.acknowledge.Goals as goal
 
@@ -26,14 +26,14 @@ shapes items = map id_shape (enumerate_from 0 items)
 
 pub returns-in_default-list : goal.returns-in_default-list
 returns-in_default-list c =
-    told _ _ _ c.in_ok-shape.ensures
+    refused_as _ _ _ c.in_ok-shape.ensures
     (pass _ _ _ (good_name _ _ _ _ (sym c.in-Some.is ∙ c.in_ok-subscription.ensures))
     ∙ stop _ _ _ _ (bad_shape _ _ c.in_default-list.ensures))
 
 pub returns-in-Some-first_without_text : goal.returns-in-Some-first_without_text
 returns-in-Some-first_without_text c =
     let items : map view c.in-Some-list.items.now ≡ ids_in (members_view c.args.fields.now.entries) = ap (λ items. unwrap_or items []) c.in-Some-list.ensures in
-    told _ _ _ (c.refused-in-Some-first_without_text.ensures ∙ ap (λ path. Refused (InvalidArgument (Shape path))) c.in_ok-item_path.ensures)
+    refused_as _ _ _ (c.refused-in-Some-first_without_text.ensures ∙ ap (λ path. Refused (InvalidArgument (Shape path))) c.in_ok-item_path.ensures)
     (pass _ _ _ (good_name _ _ _ _ (sym c.in-Some.is ∙ c.in_ok-subscription.ensures))
     ∙ (pass _ _ _ (good_shape _ _ _ c.in-Some-list.ensures)
     ∙ stop_in (shapes (ids_in (members_view c.args.fields.now.entries))) _ _ (id_refusal c.in-Some-first_without_text.place)
@@ -42,7 +42,7 @@ returns-in-Some-first_without_text c =
 pub returns-in-Some-2 : goal.returns-in-Some-2
 returns-in-Some-2 c =
     let items : map view c.in-Some-list.items.now ≡ ids_in (members_view c.args.fields.now.entries) = ap (λ items. unwrap_or items []) c.in-Some-list.ensures in
-    told _ _ _ c.refused-in-Some-2.ensures
+    refused_as _ _ _ c.refused-in-Some-2.ensures
     (pass _ _ _ (good_name _ _ _ _ (sym c.in-Some.is ∙ c.in_ok-subscription.ensures))
     ∙ (pass _ _ _ (good_shape _ _ _ c.in-Some-list.ensures)
     ∙ (pass_all (shapes (ids_in (members_view c.args.fields.now.entries))) _ _
@@ -65,7 +65,7 @@ pub returns-in-None : goal.returns-in-None
 returns-in-None c =
     let items : map view c.in-Some-list.items.now ≡ ids_in (members_view c.args.fields.now.entries) = ap (λ items. unwrap_or items []) c.in-Some-list.ensures in
     let ids : None ≡ ids_read (ids_in (members_view c.args.fields.now.entries)) = sym c.in-None.is ∙ c.in_ok-ids.ensures ∙ ap ids_read items in
-    told _ _ _ c.refused-in-None.ensures
+    refused_as _ _ _ c.refused-in-None.ensures
     (pass _ _ _ (good_name _ _ _ _ (sym c.in-Some.is ∙ c.in_ok-subscription.ensures))
     ∙ (pass _ _ _ (good_shape _ _ _ c.in-Some-list.ensures)
     ∙ (pass_all (shapes (ids_in (members_view c.args.fields.now.entries))) _ _

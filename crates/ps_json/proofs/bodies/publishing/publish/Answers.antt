@@ -7,13 +7,13 @@ use Rattle.ps_message.specs.Messages.{publish_fault}
 use Rattle.ps_model.specs.declared.command.Command.{Command}
 use Rattle.ps_json.specs.Checks.{checked, unknown}
 use Rattle.ps_json.specs.Publishing.{all_shapes, items_in, messages_in, publish_checks, publish_command, unknown_in_all}
-use Rattle.ps_json.proofs.CheckLemmas.{told, passed_on, along, pass, stop, pass_all, good_name, same_name, good_shape, bad_shape, all_known, one_unknown}
+use Rattle.ps_json.proofs.CheckLemmas.{refused_as, passed_on, along, pass, stop, pass_all, good_name, same_name, good_shape, bad_shape, all_known, one_unknown}
 use Rattle.ps_json.proofs.PublishingLemmas.{all_read, one_refused}
 use Rattle.ps_json.proofs.bodies.publishing.publish.Goals as goal
 
 pub returns-in_default-list : goal.returns-in_default-list
 returns-in_default-list c =
-    told _ _ _ c.in_ok-shape.ensures
+    refused_as _ _ _ c.in_ok-shape.ensures
     (pass _ _ _ (good_name _ _ _ _ (sym c.in-Some.is ∙ c.in_ok-topic.ensures))
     ∙ stop _ _ _ _ (bad_shape _ _ c.in_default-list.ensures))
 
@@ -37,7 +37,7 @@ returns-in-Some-2 c =
     let ms = members_view c.args.fields.now.entries in
     let items : map view c.in-Some-list.items.now ≡ items_in ms = ap (λ items. unwrap_or items []) c.in-Some-list.ensures in
     let read = all_read c.in-Some-list.items.now ms c.in_ok-messages.messages items c.in_ok-messages.ensures in
-    told _ _ _ c.refused-in-Some-2.ensures
+    refused_as _ _ _ c.refused-in-Some-2.ensures
     (pass _ _ _ (good_name _ _ _ _ (sym c.in-Some.is ∙ c.in_ok-topic.ensures))
     ∙ (pass _ _ _ (good_shape _ _ _ c.in-Some-list.ensures)
     ∙ (pass_all (all_shapes (items_in ms)) _ _ read.0
@@ -48,7 +48,7 @@ returns-in-Err c =
     let ms = members_view c.args.fields.now.entries in
     let items : map view c.in-Some-list.items.now ≡ items_in ms = ap (λ items. unwrap_or items []) c.in-Some-list.ensures in
     let read = all_read c.in-Some-list.items.now ms c.in_ok-messages.messages items c.in_ok-messages.ensures in
-    told _ _ _ c.refused-in-Err.ensures
+    refused_as _ _ _ c.refused-in-Err.ensures
     (pass _ _ _ (good_name _ _ _ _ (sym c.in-Some.is ∙ c.in_ok-topic.ensures))
     ∙ (pass _ _ _ (good_shape _ _ _ c.in-Some-list.ensures)
     ∙ (pass_all (all_shapes (items_in ms)) _ _ read.0
