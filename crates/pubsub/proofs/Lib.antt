@@ -1,10 +1,1 @@
-pub mod Calls
-pub mod EndLemmas
-pub mod FeedLemmas
-pub mod FileLemmas
-pub mod Inputs
-pub mod Leads
 pub mod LineLemmas
-pub mod ReportLemmas
-pub mod Runs
-pub mod StatusLemmas

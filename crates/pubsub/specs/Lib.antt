@@ -1,13 +1,5 @@
-pub mod Ending
-pub mod Fates
-pub mod FaultTexts
-pub mod Leading
-pub mod Lines
+pub mod Commands
 pub mod Numbers
-pub mod Pending
 pub mod Reading
-pub mod Reporting
 pub mod Service
-pub mod Serving
-pub mod Statuses
 pub mod Words

@@ -2,8 +2,8 @@
 use Rattle.std.specs.Prelude.{ℕ, List, Option, Some, None, Result, Ok, Err}
 use Rattle.ps_base.specs.declared.refusal.Refusal.{Refusal}
 use Rattle.ps_model.specs.declared.command.Command.{Command}
-use Rattle.pubsub.specs.declared.protocol.Reading.{Reading}
-use Rattle.pubsub.specs.declared.protocol.Reading.TheVariants.{Call, Refused}
+use Rattle.ps_run.specs.declared.protocol.Reading.{Reading}
+use Rattle.ps_run.specs.declared.protocol.Reading.TheVariants.{Call, Refused}
 use Rattle.ps_json.specs.Line.{Line, line_of}
 use Rattle.ps_json.specs.Replies.{no_line_text, refusal_text}
 use Rattle.ps_rest.specs.Calls.{asked_by}

@@ -1,45 +1,47 @@
 -- The words of the command line, and what they ask for.
-use Rattle.std.specs.Prelude.{ℕ, List, [], ◌∷◌, Option, Some, None, option_map, nat_eq, length, if◌then◌else◌, codes}
+use Rattle.std.specs.Prelude.{ℕ, List, [], ◌∷◌, Option, Some, None, option_map, IfSome, map, nat_eq, length, string_bytes, String, if◌then◌else◌, codes}
 use Rattle.std.specs.Str.{bytes_eq}
+use Rattle.std.specs.declared.alloc.Global.{Global}
 use Rattle.pubsub.specs.declared.words.Task.{Task}
-use Rattle.pubsub.specs.declared.words.Task.TheVariants.{Batch, Tell}
-use Rattle.pubsub.specs.declared.report.Report.{Report}
-use Rattle.pubsub.specs.declared.report.Report.TheVariants.{Check, Stat}
+use Rattle.pubsub.specs.declared.words.Task.TheVariants.{Batch, Print}
+use Rattle.ps_run.specs.declared.protocol.Report.{Report}
+use Rattle.ps_run.specs.declared.protocol.Report.TheVariants.{Check, Stat}
+
+-- the bytes of the words
+abbrev pub texts : List (String Global) → List (List ℕ)
+texts words = map string_bytes words
 
 -- the task of this name
 abbrev pub task_of : List ℕ → Option Task
 task_of verb =
     if bytes_eq verb (codes "batch") then Some Batch else (
-    if bytes_eq verb (codes "check") then Some (Tell Check) else (
-    if bytes_eq verb (codes "stat") then Some (Tell Stat) else None))
+    if bytes_eq verb (codes "check") then Some (Print Check) else (
+    if bytes_eq verb (codes "stat") then Some (Print Stat) else None))
 
--- a task and its file, where the words are these two
+-- a task and its file, if the words are these two
 abbrev pub request_in : List (List ℕ) → Option (Task × List ℕ)
 request_in [] = None
 request_in (verb ∷ []) = None
 request_in (verb ∷ file ∷ []) = if nat_eq (length file) 0 then None else option_map (λ task. (task, file)) (task_of verb)
 request_in (verb ∷ file ∷ more ∷ words) = None
 
--- the file of a batch
-abbrev pub batch_of : Option (Task × List ℕ) → Option (List ℕ)
-batch_of None = None
-batch_of (Some (Batch, file)) = Some file
-batch_of (Some (Tell report, file)) = None
+-- this holds of the file, if the words ask for something
+abbrev pub OnFile : List (String Global) → (List ℕ → Type 0) → Type 0
+OnFile words P = IfSome (request_in (texts words)) (λ it. P it.1)
 
--- a report and its file
-abbrev pub report_of : Option (Task × List ℕ) → Option (Report × List ℕ)
-report_of None = None
-report_of (Some (Batch, file)) = None
-report_of (Some (Tell report, file)) = Some (report, file)
+-- this holds of a task and its file: if it is a batch, and if it is a report
+abbrev pub IfBatch : (List ℕ → Type 0) → Task × List ℕ → Type 0
+IfBatch P (Batch, file) = P file
+IfBatch P (Print report, file) = Unit {0}
 
--- the file of the words, where they ask for something
-abbrev pub file_asked : List (List ℕ) → Option (List ℕ)
-file_asked words = option_map (λ it. it.1) (request_in words)
+abbrev pub IfReport : (Report → List ℕ → Type 0) → Task × List ℕ → Type 0
+IfReport P (Batch, file) = Unit {0}
+IfReport P (Print report, file) = P report file
 
--- the file of the words `batch FILE`, where they are these
-abbrev pub file_named : List (List ℕ) → Option (List ℕ)
-file_named words = batch_of (request_in words)
+-- this holds of the file, if the words are `batch FILE`
+abbrev pub OnBatch : List (String Global) → (List ℕ → Type 0) → Type 0
+OnBatch words P = IfSome (request_in (texts words)) (IfBatch P)
 
--- the report and the file of the words `check FILE` or `stat FILE`, where they are these
-abbrev pub report_named : List (List ℕ) → Option (Report × List ℕ)
-report_named words = report_of (request_in words)
+-- this holds of the report and the file, if the words are `check FILE` or `stat FILE`
+abbrev pub OnReport : List (String Global) → (Report → List ℕ → Type 0) → Type 0
+OnReport words P = IfSome (request_in (texts words)) (IfReport P)

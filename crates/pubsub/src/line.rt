@@ -4,11 +4,11 @@ ghost use Rattle.ps_rest.specs.Calls.{asked_by};
 ghost use Rattle.pubsub.specs.Reading.{reading_of, reading_at};
 ghost use Rattle.ps_json.specs.Shown.{shown};
 
-use crate::protocol::Reading;
 use ps_base::{OutOfMemory, Refusal};
 use ps_json::{BatchLine, ReadError, no_line, read_batch_line, refusal_line};
 use ps_model::Command;
 use ps_rest::command_for;
+use ps_run::Reading;
 use std::alloc::Global;
 
 /// What these bytes, a line without its line feed, ask.

@@ -1,31 +1,23 @@
 //! A message server with the behaviour of Google Cloud Pub/Sub.
 #![tactic(auto)]
 
-mod batch;
-#[cfg(test)]
-mod front_tests;
+ghost use Rattle.std.specs.Prelude.{◌≡◌, ◌↔◌, None, IfOk, OnErr};
+ghost use Rattle.ps_run.specs.Statuses.{status_text, Writes, EndsWith, IsUnopened};
+ghost use Rattle.pubsub.specs.Words.{texts, request_in};
+
+mod commands;
 mod line;
 mod numbers;
-mod offline;
-#[cfg(test)]
-mod offline_tests;
-mod pending;
-mod protocol;
-mod report;
-#[cfg(test)]
-mod report_tests;
 mod service;
-#[cfg(test)]
-mod session_tests;
-mod status;
 mod streams;
 #[cfg(test)]
-mod test_runs;
+mod tests;
 mod words;
 
-use offline::run_offline;
-use ps_edge::MemoryCabinet;
-use status::{Status, conclude};
+use commands::run_offline;
+use ps_edge::{MemoryCabinet, Sink, Source};
+use ps_run::{Status, conclude};
+use std::alloc::Global;
 use std::io::ErrorKind;
 use std::process::ExitCode;
 use std::rt::Env;
@@ -37,28 +29,46 @@ fn words_of(rt: &(impl Env + AllocGlobal)) -> io::Result<Vec<String>> {
     Ok(env::args(rt)?.skip(1).collect(rt.alloc())?)
 }
 
-fn main(rt: HostRuntime) -> ExitCode {
-    let alloc = rt.alloc();
-    let mut faults = StreamSink::new(rt.stderr());
-    let words = match words_of(&rt) {
+/// Runs what the words of the process ask for, over files in memory. Words that the system doesn't hand out ask for
+/// nothing.
+fn run_process<I: Source, O: Sink, E: Sink>(
+    alloc: Global,
+    words: io::Result<Vec<String>>,
+    input: &mut I,
+    output: &mut O,
+    faults: &mut E,
+) -> u8
+    ensures told { EndsWith result (λ status. Writes E.Sink faults.old faults.new (status_text status)) }
+    ensures usage { IfOk words (λ given. (result ≡ 2) ↔ (request_in (texts given.items) ≡ None)) }
+    ensures unopened { IsUnopened result → (input.new ≡ input.old) × (output.new ≡ output.old) }
+    ensures untaken { OnErr words ((input.new ≡ input.old) × (output.new ≡ output.old)) }
+{
+    let words = match words {
         Ok(words) => words,
         Err(error) => {
-            if error.kind() == ErrorKind::OutOfMemory {
-                return ExitCode::from(conclude(&mut faults, Status::OutOfMemory));
-            }
-            Vec::new(alloc)
+            let memory = error.kind() == ErrorKind::OutOfMemory;
+            let status = if memory {
+                Status::OutOfMemory
+            } else {
+                Status::Usage
+            };
+            return conclude(faults, status);
         }
     };
+    let mut cabinet = MemoryCabinet::new(alloc);
+    run_offline(alloc, words.as_slice(), input, output, faults, &mut cabinet)
+}
+
+fn main(rt: HostRuntime) -> ExitCode {
     let mut input = StreamSource::new(rt.stdin());
     let mut output = StreamSink::new(rt.stdout());
-    let mut cabinet = MemoryCabinet::new(alloc);
-    let code = run_offline(
-        alloc,
-        words.as_slice(),
+    let mut faults = StreamSink::new(rt.stderr());
+    let code = run_process(
+        rt.alloc(),
+        words_of(&rt),
         &mut input,
         &mut output,
         &mut faults,
-        &mut cabinet,
     );
     ExitCode::from(code)
 }

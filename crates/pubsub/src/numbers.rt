@@ -13,7 +13,7 @@ fn push_line(text: &mut String, name: &str, number: u64) -> Result<(), AllocErro
     writeln!(text, "{name} {number}")
 }
 
-/// The line that tells how many entries a log has.
+/// The line of `check`, with the number of entries.
 pub fn check_text(alloc: Global, count: u64) -> Result<Octets, OutOfMemory>
     ensures { IfOk result (λ text. text ≡ check_text count) }
 {
@@ -22,7 +22,7 @@ pub fn check_text(alloc: Global, count: u64) -> Result<Octets, OutOfMemory>
     Ok(Octets::from_vec(text.into_bytes()))
 }
 
-/// The ten lines that tell the numbers of a world.
+/// The ten lines of `stat`.
 pub fn stat_text(alloc: Global, stat: Stat) -> Result<Octets, OutOfMemory>
     ensures { IfOk result (λ text. text ≡ stat_text stat) }
 {

@@ -3,7 +3,7 @@ ghost use Rattle.std.specs.Prelude.{◌≡◌, None};
 use ps_edge::{Failed, Got, Sink, Source};
 use std::io::{Read, Write};
 
-/// A reader as a source. What is left to read isn't told.
+/// A reader as a source. What is left to read isn't known.
 #[derive(Drop)]
 pub struct StreamSource<R> {
     reader: R,
@@ -35,7 +35,7 @@ impl<R: Read> Source for StreamSource<R> {
     }
 }
 
-/// A writer as a sink, flushed after each write. What was written isn't told.
+/// A writer as a sink, flushed after each write. What was written isn't known.
 #[derive(Drop)]
 pub struct StreamSink<W> {
     writer: W,

@@ -1,7 +1,7 @@
-ghost use Rattle.std.specs.Prelude.{◌≡◌, option_map, map, string_bytes};
-ghost use Rattle.pubsub.specs.Words.{task_of, request_in};
+ghost use Rattle.std.specs.Prelude.{◌≡◌, option_map};
+ghost use Rattle.pubsub.specs.Words.{task_of, texts, request_in};
 
-use crate::report::Report;
+use ps_run::Report;
 
 /// What a command does with the log of its file.
 #[derive(Clone, Copy)]
@@ -9,7 +9,7 @@ pub enum Task {
     /// Answers each line of the input.
     Batch,
     /// Prints a report, and changes nothing.
-    Tell(Report),
+    Print(Report),
 }
 
 fn task_of(verb: &str) -> Option<Task>
@@ -17,15 +17,15 @@ fn task_of(verb: &str) -> Option<Task>
 {
     match verb {
         "batch" => Some(Task::Batch),
-        "check" => Some(Task::Tell(Report::Check)),
-        "stat" => Some(Task::Tell(Report::Stat)),
+        "check" => Some(Task::Print(Report::Check)),
+        "stat" => Some(Task::Print(Report::Stat)),
         _ => None,
     }
 }
 
 /// The task that the words ask for, and its file.
 pub fn request_of(words: &[String]) -> Option<(Task, &str)>
-    ensures { option_map (λ it. (it.0, it.1.now)) result ≡ request_in (map string_bytes words.now) }
+    ensures { option_map (λ it. (it.0, it.1.now)) result ≡ request_in (texts words.now) }
 {
     match words {
         [verb, file] if !file.is_empty() => Some((task_of(verb.as_str())?, file.as_str())),

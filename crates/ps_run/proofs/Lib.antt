@@ -1,0 +1,11 @@
+pub mod Batching
+pub mod Calls
+pub mod Completing
+pub mod FeedLemmas
+pub mod FileLemmas
+pub mod Going
+pub mod Inputs
+pub mod Leads
+pub mod Reporting
+pub mod Runs
+pub mod StatusLemmas

@@ -1,0 +1,16 @@
+pub mod Answering
+pub mod Batches
+pub mod Completing
+pub mod Fates
+pub mod FaultTexts
+pub mod Files
+pub mod Leading
+pub mod Lines
+pub mod Opening
+pub mod Outside
+pub mod Pending
+pub mod Reports
+pub mod Rules
+pub mod Runs
+pub mod Serving
+pub mod Statuses

@@ -1,0 +1,10 @@
+//! Tests of the whole program: what it prints, against texts that were written by hand from the rules.
+
+mod faults;
+mod limits;
+mod lines;
+mod pieces;
+mod reports;
+mod runs;
+mod sessions;
+mod transcripts;
