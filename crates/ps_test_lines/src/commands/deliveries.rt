@@ -1,0 +1,111 @@
+// Pulls and acknowledgements.
+
+use super::expect_all;
+use std::test::Fail;
+
+/// Pulls, of 1,000 messages at most.
+const PULLS: &str = r#"
+> Pull projects/p/subscriptions/sub {"maxMessages":1}
+> Pull projects/p/subscriptions/sub {"maxMessages":1,"returnImmediately":true,"other":null}
+> Pull projects/p/subscriptions/sub {"maxMessages":1,"returnImmediately":null}
+> Pull projects/p/subscriptions/sub {"maxMessages":0,"maxMessages":1}
+< projects/p/subscriptions/sub 1 10000000 None
+> Pull projects/p/subscriptions/sub {"maxMessages":1000}
+> Pull projects/p/subscriptions/sub {"maxMessages":1001}
+> Pull projects/p/subscriptions/sub {"maxMessages":9223372036854775807}
+< projects/p/subscriptions/sub 1000 10000000 None
+> Pull projects/p/topics/x {"maxMessages":"x"}
+> Pull projects/p/topics/abc {"maxMessages":1}
+< 400 name
+> Pull projects/p/subscriptions/sub {"maxMessages":[],"returnImmediately":7}
+< 400 shape: maxMessages
+> Pull projects/p/subscriptions/sub {"maxMessages":0,"returnImmediately":"true","max":1}
+< 400 shape: returnImmediately
+> Pull projects/p/subscriptions/sub {"maxMessages":0,"max":0,"MAX":""}
+< 400 unknown field: MAX
+> Pull projects/p/subscriptions/sub {"maxMessages":0}
+> Pull projects/p/subscriptions/sub {"maxMessages":-1}
+> Pull projects/p/subscriptions/sub {"maxMessages":null}
+> Pull projects/p/subscriptions/sub {}
+< 400 maxMessages
+"#;
+
+/// A whole number is a JSON number without sign, point and exponent unless it is below 0, or a text of decimal digits.
+const WHOLE_NUMBERS: &str = r#"
+> Pull projects/p/subscriptions/sub {"maxMessages":"007"}
+< projects/p/subscriptions/sub 7 10000000 None
+> Pull projects/p/subscriptions/sub {"maxMessages":"9223372036854775807"}
+< projects/p/subscriptions/sub 1000 10000000 None
+> Pull projects/p/subscriptions/sub {"maxMessages":"9223372036854775808"}
+> Pull projects/p/subscriptions/sub {"maxMessages":9223372036854775808}
+< 400 shape: maxMessages
+> Pull projects/p/subscriptions/sub {"maxMessages":"-9223372036854775808"}
+> Pull projects/p/subscriptions/sub {"maxMessages":-9223372036854775808}
+< 400 maxMessages
+> Pull projects/p/subscriptions/sub {"maxMessages":"-9223372036854775809"}
+< 400 shape: maxMessages
+> Pull projects/p/subscriptions/sub {"maxMessages":"-0"}
+> Pull projects/p/subscriptions/sub {"maxMessages":"-5"}
+< 400 maxMessages
+> Pull projects/p/subscriptions/sub {"maxMessages":-0}
+> Pull projects/p/subscriptions/sub {"maxMessages":1.0}
+> Pull projects/p/subscriptions/sub {"maxMessages":1e2}
+> Pull projects/p/subscriptions/sub {"maxMessages":"+5"}
+> Pull projects/p/subscriptions/sub {"maxMessages":"--5"}
+> Pull projects/p/subscriptions/sub {"maxMessages":"-"}
+> Pull projects/p/subscriptions/sub {"maxMessages":""}
+> Pull projects/p/subscriptions/sub {"maxMessages":" 1"}
+> Pull projects/p/subscriptions/sub {"maxMessages":"1x"}
+> Pull projects/p/subscriptions/sub {"maxMessages":true}
+< 400 shape: maxMessages
+"#;
+
+/// Acknowledgements.
+const ACKNOWLEDGEMENTS: &str = r#"
+> Acknowledge projects/p/subscriptions/sub {"ackIds":["AAAAAAAAAAEAAAAAAAAAAwAAAAAAAAAC","AAAAAAAAAAEAAAAAAAAAAQAAAAAAAAAB","AAAAAAAAAAEAAAAAAAAAAwAAAAAAAAAC"]}
+< projects/p/subscriptions/sub 1/3/2 1/1/1 1/3/2
+> Acknowledge projects/p/subscriptions/sub {"ackIds":"AAAAAAAAAAEAAAAAAAAAAQAAAAAAAAAB"}
+< 400 shape: ackIds
+> Acknowledge projects/p/subscriptions/sub {"ackIds":["x",null,7],"other":1}
+< 400 shape: ackIds[1]
+> Acknowledge projects/p/subscriptions/sub {"ackIds":[],"other":1,"more":0}
+< 400 unknown field: more
+> Acknowledge projects/p/subscriptions/sub {"ackIds":[]}
+> Acknowledge projects/p/subscriptions/sub {"ackIds":null}
+> Acknowledge projects/p/subscriptions/sub {}
+> Acknowledge projects/p/subscriptions/sub {"ackIds":["AAAAAAAAAAEAAAAAAAAAAQAAAAAAAAAB",""]}
+> Acknowledge projects/p/subscriptions/sub {"ackIds":["AAAAAAAAAAEAAAAAAAAAAQAAAAAAAA-_"]}
+> Acknowledge projects/p/subscriptions/sub {"ackIds":["AAAAAAAAAAEAAAAAAAAAAQAAAAAAAA=="]}
+> Acknowledge projects/p/subscriptions/sub {"ackIds":["AAAAAAAAAAEAAAAAAAAAAQAAAAAAAAABAAAA"]}
+< 400 ackIds
+"#;
+
+/// The name is looked at before the ids.
+const ACKNOWLEDGEMENTS_OF_NO_SUBSCRIPTION: &str = r#"
+> Acknowledge projects/p/topics/abc {"ackIds":["AAAAAAAAAAEAAAAAAAAAAwAAAAAAAAAC","AAAAAAAAAAEAAAAAAAAAAQAAAAAAAAAB","AAAAAAAAAAEAAAAAAAAAAwAAAAAAAAAC"]}
+> Acknowledge projects/p/topics/abc {"ackIds":"AAAAAAAAAAEAAAAAAAAAAQAAAAAAAAAB"}
+> Acknowledge projects/p/topics/abc {"ackIds":["x",null,7],"other":1}
+> Acknowledge projects/p/topics/abc {"ackIds":[],"other":1,"more":0}
+> Acknowledge projects/p/topics/abc {"ackIds":[]}
+> Acknowledge projects/p/topics/abc {"ackIds":null}
+> Acknowledge projects/p/topics/abc {}
+> Acknowledge projects/p/topics/abc {"ackIds":["AAAAAAAAAAEAAAAAAAAAAQAAAAAAAAAB",""]}
+> Acknowledge projects/p/topics/abc {"ackIds":["AAAAAAAAAAEAAAAAAAAAAQAAAAAAAA-_"]}
+> Acknowledge projects/p/topics/abc {"ackIds":["AAAAAAAAAAEAAAAAAAAAAQAAAAAAAA=="]}
+> Acknowledge projects/p/topics/abc {"ackIds":["AAAAAAAAAAEAAAAAAAAAAQAAAAAAAAABAAAA"]}
+< 400 name
+"#;
+
+#[test]
+fn pulls_are_read(rt: HostRuntime) -> Result<(), Fail> {
+    expect_all(&rt, rt.alloc(), &[PULLS, WHOLE_NUMBERS])
+}
+
+#[test]
+fn acknowledgements_are_read(rt: HostRuntime) -> Result<(), Fail> {
+    expect_all(
+        &rt,
+        rt.alloc(),
+        &[ACKNOWLEDGEMENTS, ACKNOWLEDGEMENTS_OF_NO_SUBSCRIPTION],
+    )
+}
