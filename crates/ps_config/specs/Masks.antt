@@ -1,5 +1,6 @@
 -- Masks of updates, and settings with the masked fields changed (API reference, UpdateTopic and UpdateSubscription; a bit for each field is this project's own).
-use Rattle.std.specs.Prelude.{ℕ, ◌/◌, ◌%◌, ◌^◌, Bool, false, not, ◌&&◌, nat_eq, nat_lt, [], Some, None, if◌then◌else◌}
+use Rattle.std.specs.Prelude.{◌≡◌, ◌↔◌, ℕ, ◌/◌, ◌%◌, ◌^◌, Bool, true, false, not, ◌&&◌, ◌||◌, nat_eq, nat_lt, [], Option, Some, None, is_none, if◌then◌else◌}
+use Rattle.ps_message.specs.Lists.{is_empty}
 use Rattle.ps_config.specs.declared.config.TopicConfig.{TopicConfig}
 use Rattle.ps_config.specs.declared.config.SubConfig.{SubConfig}
 use Rattle.ps_config.specs.declared.mask.Mask.{Mask}
@@ -44,3 +45,39 @@ masked_sub mask old new = record {
   retry = if has_bit mask 6 then new.retry else old.retry;
   exactly_once = if has_bit mask 7 then new.exactly_once else old.exactly_once;
 }
+
+-- the value is set, and is this number
+abbrev pub is_set_to : ℕ → Option ℕ → Bool
+is_set_to n None = false
+is_set_to n (Some own) = nat_eq own n
+
+-- each field of a topic is named, or has its default
+abbrev pub is_masked_topic : Mask → TopicConfig → Bool
+is_masked_topic mask config = (has_bit mask 0 || is_empty config.labels) && (has_bit mask 1 || is_none config.retention)
+
+-- the seconds of a lease, the retention and the expiration
+abbrev pub has_masked_times : Mask → SubConfig → Bool
+has_masked_times mask config =
+    (has_bit mask 0 || nat_eq config.ack_seconds default_ack_seconds)
+    && ((has_bit mask 1 || not config.retain_acked)
+    && ((has_bit mask 2 || nat_eq config.retention default_retention)
+    && (has_bit mask 4 || is_set_to default_expiration config.expiration)))
+
+-- the labels, the policies and exactly-once mode
+abbrev pub has_masked_policies : Mask → SubConfig → Bool
+has_masked_policies mask config =
+    (has_bit mask 3 || is_empty config.labels)
+    && ((has_bit mask 5 || is_none config.dead_letter)
+    && ((has_bit mask 6 || is_none config.retry)
+    && (has_bit mask 7 || not config.exactly_once)))
+
+-- each field of a subscription is named, or has its default; ordering and the filter can't be named
+abbrev pub is_masked_sub : Mask → SubConfig → Bool
+is_masked_sub mask config = not config.ordering && (is_empty config.filter && (has_masked_times mask config && has_masked_policies mask config))
+
+-- that is so if and only if the settings are their masked fields over the defaults
+abbrev pub TopicIsMasked : Type 0
+TopicIsMasked = (mask : Mask) (config : TopicConfig) → (is_masked_topic mask config ≡ true) ↔ (masked_topic mask default_topic config ≡ config)
+
+abbrev pub SubIsMasked : Type 0
+SubIsMasked = (mask : Mask) (config : SubConfig) → (is_masked_sub mask config ≡ true) ↔ (masked_sub mask default_sub config ≡ config)

@@ -1,19 +1,43 @@
-ghost use Rattle.std.specs.Prelude.{◌≡◌, ◌<◌, if◌then◌else◌};
-ghost use Rattle.ps_config.specs.Masks.{has_bit, masked_topic, masked_sub};
+ghost use Rattle.std.specs.Prelude.{◌≡◌, ◌<◌, ◌||◌, if◌then◌else◌};
+ghost use Rattle.ps_config.specs.Masks.{has_bit, is_mask, masked_topic, masked_sub, is_masked_topic, is_masked_sub, has_masked_times, has_masked_policies};
 
 use crate::config::{SubConfig, TopicConfig};
+use crate::limits::{DEFAULT_ACK_SECONDS, DEFAULT_EXPIRATION, DEFAULT_RETENTION};
 use ps_base::{Duplicate, OutOfMemory};
 use std::alloc::Global;
 
 /// Which fields an update names: a bit each, from the lowest one on. Of a topic these are its labels and retention; of
 /// a subscription the seconds of a lease, whether acknowledged messages are retained, retention, labels, expiration,
-/// dead letters, retry and exactly-once mode.
+/// dead letters, retry, exactly-once mode, and push settings, which aren't kept.
 #[derive(Clone, Copy, PartialEq, Eq)]
 pub struct Mask(pub u32);
 
+/// Above each mask of a topic, which has 2 fields.
+const TOPIC_MASKS_END: u32 = 1 << 2;
+
+/// Above each mask of a subscription, which has 9 fields.
+const SUB_MASKS_END: u32 = 1 << 9;
+
 impl Mask {
+    /// Every field.
+    pub const WHOLE: Mask = Mask(511);
+
+    /// Whether it names a field, and no field that a topic doesn't have.
+    pub fn is_of_topic(self) -> bool
+        ensures { result ≡ is_mask 2 self }
+    {
+        self.0 != 0 && self.0 < TOPIC_MASKS_END
+    }
+
+    /// Whether it names a field, and no field that a subscription doesn't have.
+    pub fn is_of_sub(self) -> bool
+        ensures { result ≡ is_mask 9 self }
+    {
+        self.0 != 0 && self.0 < SUB_MASKS_END
+    }
+
     /// Whether the field of this bit is named.
-    pub(crate) fn has(self, bit: u32) -> bool
+    pub fn has(self, bit: u32) -> bool
         requires { bit < 32 }
         ensures { result ≡ has_bit self bit }
     {
@@ -70,4 +94,43 @@ pub fn apply_sub(config: &mut SubConfig, new: SubConfig, mask: Mask)
     replace(&mut config.dead_letter, dead_letter, mask.has(5));
     replace(&mut config.retry, retry, mask.has(6));
     replace(&mut config.exactly_once, exactly_once, mask.has(7));
+}
+
+/// Whether the fields of a topic that the mask doesn't name have their defaults. Takes no memory.
+pub fn is_masked_topic(config: &TopicConfig, mask: Mask) -> bool
+    ensures { result ≡ is_masked_topic mask config.now }
+{
+    (mask.has(0) || config.labels.as_slice().is_empty())
+        && (mask.has(1) || config.retention.is_none())
+}
+
+/// Whether the fields of a subscription that the mask doesn't name have their defaults, and ordering and the filter
+/// always. Takes no memory.
+pub fn is_masked_sub(config: &SubConfig, mask: Mask) -> bool
+    ensures { result ≡ is_masked_sub mask config.now }
+{
+    !config.ordering
+        && config.filter.len() == 0
+        && has_masked_times(config, mask)
+        && has_masked_policies(config, mask)
+}
+
+/// Whether the seconds of a lease, the retention and the expiration are named or their defaults.
+fn has_masked_times(config: &SubConfig, mask: Mask) -> bool
+    ensures { result ≡ has_masked_times mask config.now }
+{
+    (mask.has(0) || config.ack_seconds == DEFAULT_ACK_SECONDS)
+        && (mask.has(1) || !config.retain_acked)
+        && (mask.has(2) || config.retention == DEFAULT_RETENTION)
+        && (mask.has(4) || config.expiration == Some(DEFAULT_EXPIRATION))
+}
+
+/// Whether the labels, the policies and exactly-once mode are named or their defaults.
+fn has_masked_policies(config: &SubConfig, mask: Mask) -> bool
+    ensures { result ≡ has_masked_policies mask config.now }
+{
+    (mask.has(3) || config.labels.as_slice().is_empty())
+        && (mask.has(5) || config.dead_letter.is_none())
+        && (mask.has(6) || config.retry.is_none())
+        && (mask.has(7) || !config.exactly_once)
 }

@@ -1,14 +1,14 @@
 -- The bytes of entries are exact.
-use Rattle.std.proofs.Common.{◌≡◌, ℕ, nat_eq, Bool, true, false, List, [], ◌∷◌, ◌++◌, Option, Some, None, if◌then◌else◌, refl, ap, sym, subst, ◌∙◌}
+use Rattle.std.proofs.Common.{◌≡◌, ℕ, nat_eq, Bool, true, false, List, [], ◌∷◌, ◌++◌, Option, Some, None, if◌then◌else◌, refl, ap, sym, ◌∙◌}
 use Rattle.std.proofs.lemmas.Bool.{eqb-true}
 use Rattle.std.proofs.lemmas.List.{append-nil}
-use Rattle.ps_codec.specs.Fields.{IsBytes, u64_field}
+use Rattle.ps_codec.specs.Fields.{u64_field}
 use Rattle.ps_codec.proofs.FieldLemmas.{IsBytes-behind}
 use Rattle.ps_model.specs.declared.command.Command.{Command}
 use Rattle.ps_model.specs.declared.command.Entry.{Entry}
-use Rattle.ps_model.specs.Forms.{Reading, pair_form, pair_at, made_at, number64_at, PairFits, IsBelow64}
+use Rattle.ps_model.specs.Forms.{pair_form, pair_at, made_at, number64_at, PairFits, IsBelow64}
 use Rattle.ps_model.specs.FormLaws.{IsForm}
-use Rattle.ps_model.proofs.FormLemmas.{IsMade, made-only, form-made, form-pair, form-number64}
+use Rattle.ps_model.proofs.FormLemmas.{form-made, form-pair, form-number64}
 use Rattle.ps_entry.specs.Commands.{command_form, command_at, CommandFits}
 use Rattle.ps_entry.specs.Entries.{entry_form, entry_of, entry_at, whole, entry_in, EntryFits, ReadsBack, ReadsNothingElse}
 use Rattle.ps_entry.proofs.CommandForms.{form-command}

@@ -1,2 +1,3 @@
+pub mod FieldForms
 pub mod CommandForms
 pub mod EntryForms

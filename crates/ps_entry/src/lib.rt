@@ -3,8 +3,10 @@
 
 mod laws;
 mod reading;
+mod recorded;
 mod writing;
 
 pub use laws::law_entries;
 pub use reading::read;
-pub use writing::{is_recorded, write};
+pub use recorded::is_recorded;
+pub use writing::write;

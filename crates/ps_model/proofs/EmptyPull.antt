@@ -3,6 +3,7 @@ use Rattle.std.proofs.Common.{ℕ, ◌≡◌, ◌≢◌, ◌<◌, ◌↔◌, min
 use Rattle.std.proofs.lemmas.Bool.{ne_eqb, false≢true}
 use Rattle.ps_base.specs.declared.refusal.Refusal.TheVariants.{Exhausted}
 use Rattle.ps_base.specs.declared.reason.Reason.TheVariants.{MaxMessages}
+use Rattle.ps_message.specs.Limits.{most_messages, most_bytes}
 use Rattle.ps_model.specs.declared.command.Command.TheVariants.{Pull}
 use Rattle.ps_model.specs.declared.mark.Slot.{Slot}
 use Rattle.ps_model.specs.declared.mark.Handed.{Handed}
@@ -48,13 +49,15 @@ pub empty_where_nothing_is : EmptyWhereNothingIs
 empty_where_nothing_is w at name most budget seconds sub exactly_once ordering items hm hb told found =
     let t = moment w at in
     let v = settled t w in
-    let fewer = min most 1000 in
+    let fewer = min most most_messages in
+    let less = min budget most_bytes in
     let read = option_map lease_seconds seconds in
     let some : 0 < fewer = omega arith in
+    let room : 0 < less = omega arith in
     let none : nat_eq fewer 0 ≡ false = ne_eqb fewer 0 (omega arith) in
-    let open1 = no_fault v t name fewer budget read sub exactly_once ordering items (nat_eq fewer 0) none told in
-    let open2 = not_full v t name fewer budget read sub exactly_once ordering items (is_full v) open1 in
-    let open3 = subst (λ (row : Option SubRow). reply_in (pull_at v t name fewer budget read row) ≡ Received exactly_once ordering items) found open2 in
-    let same = attached v t name fewer budget read sub exactly_once ordering items sub.detached (unwrap_or read sub.config.ack_seconds) open3 in
+    let open1 = no_fault v t name fewer less read sub exactly_once ordering items (nat_eq fewer 0) none told in
+    let open2 = not_full v t name fewer less read sub exactly_once ordering items (is_full v) open1 in
+    let open3 = subst (λ (row : Option SubRow). reply_in (pull_at v t name fewer less read row) ≡ Received exactly_once ordering items) found open2 in
+    let same = attached v t name fewer less read sub exactly_once ordering items sub.detached (unwrap_or read sub.config.ack_seconds) open3 in
     subst (λ (xs : List ReceivedMessage). (xs ≡ []) ↔ (deliverable t sub.config.ordering (slots_of v sub.number) ≡ [])) same
-    (shown_empty (λ h. received sub h (message_at v.messages h.number)) fewer budget sub.next_lease (deliverable t sub.config.ordering (slots_of v sub.number)) some hb)
+    (shown_empty (λ h. received sub h (message_at v.messages h.number)) fewer less sub.next_lease (deliverable t sub.config.ordering (slots_of v sub.number)) some room)

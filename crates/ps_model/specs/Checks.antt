@@ -1,12 +1,14 @@
 -- The checks of a command that need no world, and the form in which a command is read (API reference, the limits of each field).
-use Rattle.std.specs.Prelude.{ℕ, min, max, Bool, not, nat_eq, nat_lt, List, [], ◌∷◌, Option, None, option_map}
+use Rattle.std.specs.Prelude.{◌≡◌, ◌↔◌, ℕ, min, max, Bool, true, not, ◌&&◌, nat_eq, nat_lt, nat_le, List, [], ◌∷◌, Option, Some, None, option_map}
 use Rattle.std.specs.List.{list_any}
 use Rattle.ps_base.specs.declared.ack_id.AckId.{AckId}
 use Rattle.ps_base.specs.declared.reason.Reason.{Reason}
 use Rattle.ps_base.specs.declared.reason.Reason.TheVariants.{AckDeadlineSeconds, MaxMessages, AckIds, UpdateMask}
 use Rattle.ps_config.specs.declared.config.SubConfig.{SubConfig}
 use Rattle.ps_config.specs.Limits.{labels_fault, topic_fault, sub_fault, sub_checks_before_filter, sub_checks_behind_filter}
-use Rattle.ps_config.specs.Masks.{is_mask, whole_mask, default_topic, default_sub, masked_topic, masked_sub}
+use Rattle.ps_config.specs.Masks.{is_mask, whole_mask, default_topic, default_sub, masked_topic, masked_sub, is_masked_topic, is_masked_sub}
+use Rattle.ps_config.specs.Numbers.{least_ack_seconds, most_ack_seconds}
+use Rattle.ps_message.specs.Limits.{most_messages, most_bytes}
 use Rattle.ps_message.specs.Lists.{is_empty, first_of}
 use Rattle.ps_message.specs.Messages.{broken, publish_fault}
 use Rattle.ps_model.specs.declared.command.Command.{Command}
@@ -27,7 +29,7 @@ new_sub_fault config = first_of (
     ∷ [])
 
 abbrev pub has_long_deadline : AckId × ℕ → Bool
-has_long_deadline item = nat_lt 600 item.1
+has_long_deadline item = nat_lt most_ack_seconds item.1
 
 -- the first check that a command breaks, of those that need no world
 abbrev pub argument_fault : Command → Option Reason
@@ -57,13 +59,32 @@ argument_fault (GetSnapshot snapshot) = None
 argument_fault (DeleteSnapshot snapshot) = None
 argument_fault (ListSnapshots project paging) = None
 
--- the nearest number from 10 to 600
+-- the nearest seconds of a lease
 abbrev pub lease_seconds : ℕ → ℕ
-lease_seconds seconds = max 10 (min seconds 600)
+lease_seconds seconds = max least_ack_seconds (min seconds most_ack_seconds)
 
--- The form in which a command is carried out and recorded: a pull asks for at most 1,000 messages and for the nearest seconds from 10 to 600; an update has its masked fields, and the others at their defaults.
+-- The form in which a command is carried out and recorded: a pull asks for no more messages and bytes than one may, and for the nearest seconds of a lease; an update has its masked fields, and the others at their defaults.
 abbrev pub as_read : Command → Command
 as_read (UpdateTopic topic mask config) = UpdateTopic topic mask (masked_topic mask default_topic config)
 as_read (UpdateSubscription subscription mask config) = UpdateSubscription subscription mask (masked_sub mask default_sub config)
-as_read (Pull subscription most budget seconds) = Pull subscription (min most 1000) budget (option_map lease_seconds seconds)
+as_read (Pull subscription most budget seconds) = Pull subscription (min most most_messages) (min budget most_bytes) (option_map lease_seconds seconds)
 as_read c = c
+
+abbrev pub is_lease_normal : Option ℕ → Bool
+is_lease_normal None = true
+is_lease_normal (Some seconds) = nat_le least_ack_seconds seconds && nat_le seconds most_ack_seconds
+
+-- a command already stands in that form
+abbrev pub is_normal : Command → Bool
+is_normal (UpdateTopic topic mask config) = is_masked_topic mask config
+is_normal (UpdateSubscription subscription mask config) = is_masked_sub mask config
+is_normal (Pull subscription most budget seconds) = nat_le most most_messages && (nat_le budget most_bytes && is_lease_normal seconds)
+is_normal c = true
+
+-- the form of a command stands in that form itself
+abbrev pub AsReadIsNormal : Type 0
+AsReadIsNormal = (c : Command) → is_normal (as_read c) ≡ true
+
+-- the test passes the commands that are their own form, and no other ones
+abbrev pub NormalIsAsRead : Type 0
+NormalIsAsRead = (c : Command) → (is_normal c ≡ true) ↔ (as_read c ≡ c)

@@ -74,14 +74,40 @@ fn text_of_ids(alloc: Global, ids: &[AckId]) -> Result<String, OutOfMemory> {
     Ok(text)
 }
 
-/// The fields of a command of those that are recorded.
-fn text_of_command(alloc: Global, command: &Command) -> Result<String, OutOfMemory> {
+fn text_of_items(alloc: Global, items: &[(AckId, u32)]) -> Result<String, OutOfMemory> {
+    let mut text = String::new(alloc);
+    for (id, seconds) in items {
+        let one = format!(in alloc; " {}/{}/{}/{seconds}", id.sub, id.message, id.lease)?;
+        text.push_str(one.as_str())?;
+    }
+    Ok(text)
+}
+
+fn text_of_topic_command(alloc: Global, command: &Command) -> Result<String, OutOfMemory> {
     match command {
-        Command::Tick => Ok(format!(in alloc; "tick")?),
         Command::CreateTopic { topic, config } => {
             let config = text_of_topic(alloc, config)?;
             Ok(format!(in alloc; "{} {config}", topic.text())?)
         }
+        Command::UpdateTopic {
+            topic,
+            mask,
+            config,
+        } => {
+            let config = text_of_topic(alloc, config)?;
+            Ok(format!(in alloc; "{} update {} {config}", topic.text(), mask.0)?)
+        }
+        Command::DeleteTopic { topic } => Ok(format!(in alloc; "{} delete", topic.text())?),
+        Command::Publish { topic, messages } => {
+            let messages = text_of_messages(alloc, messages.as_slice())?;
+            Ok(format!(in alloc; "{}{messages}", topic.text())?)
+        }
+        _ => Ok(format!(in alloc; "another")?),
+    }
+}
+
+fn text_of_subscription_command(alloc: Global, command: &Command) -> Result<String, OutOfMemory> {
+    match command {
         Command::CreateSubscription {
             subscription,
             topic,
@@ -90,10 +116,47 @@ fn text_of_command(alloc: Global, command: &Command) -> Result<String, OutOfMemo
             let config = text_of_subscription(alloc, config)?;
             Ok(format!(in alloc; "{} {} {config}", subscription.text(), topic.text())?)
         }
-        Command::Publish { topic, messages } => {
-            let messages = text_of_messages(alloc, messages.as_slice())?;
-            Ok(format!(in alloc; "{}{messages}", topic.text())?)
+        Command::UpdateSubscription {
+            subscription,
+            mask,
+            config,
+        } => {
+            let config = text_of_subscription(alloc, config)?;
+            Ok(format!(in alloc; "{} update {} {config}", subscription.text(), mask.0)?)
         }
+        Command::DeleteSubscription { subscription } => {
+            Ok(format!(in alloc; "{} delete", subscription.text())?)
+        }
+        Command::Detach { subscription } => {
+            Ok(format!(in alloc; "{} detach", subscription.text())?)
+        }
+        _ => Ok(format!(in alloc; "another")?),
+    }
+}
+
+fn text_of_snapshot_command(alloc: Global, command: &Command) -> Result<String, OutOfMemory> {
+    match command {
+        Command::CreateSnapshot {
+            snapshot,
+            subscription,
+            labels,
+        } => {
+            let labels = text_of_labels(alloc, labels)?;
+            Ok(format!(in alloc; "{} {} {labels}", snapshot.text(), subscription.text())?)
+        }
+        Command::UpdateSnapshot { snapshot, labels } => {
+            let labels = text_of_labels(alloc, labels)?;
+            Ok(format!(in alloc; "{} update {labels}", snapshot.text())?)
+        }
+        Command::DeleteSnapshot { snapshot } => {
+            Ok(format!(in alloc; "{} delete", snapshot.text())?)
+        }
+        _ => Ok(format!(in alloc; "another")?),
+    }
+}
+
+fn text_of_delivery_command(alloc: Global, command: &Command) -> Result<String, OutOfMemory> {
+    match command {
         Command::Pull {
             subscription,
             max,
@@ -104,7 +167,40 @@ fn text_of_command(alloc: Global, command: &Command) -> Result<String, OutOfMemo
             let ids = text_of_ids(alloc, ids.as_slice())?;
             Ok(format!(in alloc; "{}{ids}", subscription.text())?)
         }
+        Command::ModifyAckDeadline {
+            subscription,
+            items,
+        } => {
+            let items = text_of_items(alloc, items.as_slice())?;
+            Ok(format!(in alloc; "{}{items}", subscription.text())?)
+        }
+        Command::SeekTime { subscription, time } => {
+            Ok(format!(in alloc; "{} seek {time}", subscription.text())?)
+        }
+        Command::SeekSnapshot {
+            subscription,
+            snapshot,
+        } => { Ok(format!(in alloc; "{} seek {}", subscription.text(), snapshot.text())?) }
         _ => Ok(format!(in alloc; "another")?),
+    }
+}
+
+/// The fields of a command of those that are recorded.
+fn text_of_command(alloc: Global, command: &Command) -> Result<String, OutOfMemory> {
+    match command {
+        Command::Tick => Ok(format!(in alloc; "tick")?),
+        Command::CreateTopic { .. }
+        | Command::UpdateTopic { .. }
+        | Command::DeleteTopic { .. }
+        | Command::Publish { .. } => text_of_topic_command(alloc, command),
+        Command::CreateSubscription { .. }
+        | Command::UpdateSubscription { .. }
+        | Command::DeleteSubscription { .. }
+        | Command::Detach { .. } => text_of_subscription_command(alloc, command),
+        Command::CreateSnapshot { .. }
+        | Command::UpdateSnapshot { .. }
+        | Command::DeleteSnapshot { .. } => text_of_snapshot_command(alloc, command),
+        _ => text_of_delivery_command(alloc, command),
     }
 }
 
