@@ -35,9 +35,10 @@ pub record PullExamples : Type 0 where
   pub budget_not_reached : told three (pull_with 10 3 None) ≡ plain_answer (out (id 1 1 1) hi ∷ out (id 1 2 2) hi ∷ [])
   pub message_above_the_budget : told three (pull_with 10 1 None) ≡ plain_answer (out (id 1 1 1) hi ∷ [])
   pub no_budget : told three (pull_with 10 0 None) ≡ plain_answer []
-  -- more than 1,000 messages are read as 1,000, and seconds as the nearest number from 10 to 600
+  -- more than 1,000 messages are read as 1,000, more than 10,000,000 bytes as so many, and seconds as the nearest number from 10 to 600
   pub as_asked : recorded_of three (pull_with 1000 10000000 None) ≡ pull_entry 1000 10000000 None
   pub too_many : recorded_of three (pull_with 1001 10000000 None) ≡ pull_entry 1000 10000000 None
+  pub too_many_bytes : recorded_of three (pull_with 1 10000001 None) ≡ pull_entry 1 10000000 None
   pub too_short : recorded_of three (pull_with 1 10000000 (Some 9)) ≡ pull_entry 1 10000000 (Some 10)
   pub shortest : recorded_of three (pull_with 1 10000000 (Some 10)) ≡ pull_entry 1 10000000 (Some 10)
   pub longest : recorded_of three (pull_with 1 10000000 (Some 600)) ≡ pull_entry 1 10000000 (Some 600)

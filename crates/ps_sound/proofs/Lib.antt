@@ -3,3 +3,4 @@ pub mod phases
 pub mod commands
 pub mod histories
 pub mod replies
+pub mod living

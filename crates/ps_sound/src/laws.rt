@@ -1,5 +1,6 @@
-ghost use Rattle.ps_model.specs.Laws.{StaysSound, HandedOutOnce, AcknowledgedForGood, LeasedInOrder, SoughtToTime, SoughtToSnapshot, HandedOutInOrder, NeverKeptAgain, SettledAtNow, SettledAfterStep};
+ghost use Rattle.ps_model.specs.Laws.{StaysSound, HandedOutOnce, AcknowledgedForGood, LeasedInOrder, SoughtToTime, SoughtToSnapshot, HandedOutInOrder, NeverKeptAgain, SettledAtNow, SettledAfterStep, GoneNeverMatters};
 ghost use Rattle.ps_sound.specs.Histories.{SoundAfterHistories};
+ghost use Rattle.ps_sound.specs.Living.{LiveIsSound, LiveIsEnough, LiveRepliesTheSame};
 ghost use Rattle.ps_sound.specs.Recorded.{ReplyIsRecorded, RecordedIsAccepted, RefusedOnlySettles, SettlesForGood};
 ghost use Rattle.ps_sound.specs.Told.{PublishedIsThere, ReceivedIsHandedOut, AcknowledgedIsSo, ModifiedIsSo};
 
@@ -96,4 +97,18 @@ pub fn law_acknowledged()
 /// After a change of deadlines each live lease that it named has the deadline asked for, or has ended.
 pub fn law_modified()
     ensures modified { ModifiedIsSo }
+{}
+
+/// What is gone never matters: a call on the live part of a sound world gets the same reply, records the same entry and
+/// leaves the same live part. That live part is sound too.
+pub fn law_gone_never_matters()
+    ensures gone_never_matters { GoneNeverMatters }
+    ensures live_is_sound { LiveIsSound }
+{}
+
+/// Who keeps the live part of the world alone, from the empty world on, accepts the same histories, then tells and
+/// records the same, and so gives the same replies to every run of calls.
+pub fn law_live_is_enough()
+    ensures live_is_enough { LiveIsEnough }
+    ensures live_replies_the_same { LiveRepliesTheSame }
 {}

@@ -18,7 +18,7 @@ use Rattle.ps_base.proofs.Lists.{each-always, any-none}
 use Rattle.ps_sound.proofs.worlds.Underway.{IsUnderway}
 use Rattle.ps_sound.proofs.worlds.Marked.{at_sub, remark_at-marked, IsMild, calm-underway}
 
-gone-may-not : (exactly_once : Bool) (lease : ℕ) (mark : Mark) → is_gone mark ≡ true → may_ack exactly_once lease mark ≡ false
+pub gone-may-not : (exactly_once : Bool) (lease : ℕ) (mark : Mark) → is_gone mark ≡ true → may_ack exactly_once lease mark ≡ false
 gone-may-not exactly_once lease (Backlog f u l) e = absurd (cc (e))
 gone-may-not exactly_once lease (Leased f l d) e = absurd (cc (e))
 gone-may-not exactly_once lease (Ahead f) e = refl

@@ -205,7 +205,7 @@ module _ (t count : ℕ) (v : World) (h : IsFinished t count v) where
   carried-fine (GetSubscription subscription) checked = get_sub-fine subscription (sub_named v subscription)
   carried-fine (DeleteSubscription subscription) checked = delete_sub-fine subscription (sub_named v subscription)
   carried-fine (ListSubscriptions project paging) checked = shows
-  carried-fine (Pull subscription most budget seconds) checked = pull-fine subscription (min most 1000) budget seconds (sub_named v subscription) refl (omega arith)
+  carried-fine (Pull subscription most budget seconds) checked = pull-fine subscription (min most 1000) (min budget 10000000) seconds (sub_named v subscription) refl (omega arith)
   carried-fine (Acknowledge subscription ids) checked = acknowledge-fine subscription ids (sub_named v subscription)
   carried-fine (ModifyAckDeadline subscription items) checked = modify-fine subscription items (sub_named v subscription) refl
       (items-short items (broken-none (list_any has_long_deadline items) AckDeadlineSeconds (first-none (broken (is_empty items) AckIds ∷ broken (list_any has_long_deadline items) AckDeadlineSeconds ∷ []) checked).1.0))

@@ -29,7 +29,7 @@ use Rattle.ps_sound.proofs.worlds.Underway.{InOrder, AllInOrder, IsGoneAt, IsUnd
 use Rattle.ps_sound.proofs.commands.Choosing.{slots-ascend}
 
 -- by number
-abbrev Comes : Slot → Slot → Type 0
+abbrev pub Comes : Slot → Slot → Type 0
 Comes a b = a.item.number < b.item.number
 
 each-brought : (P : Slot → Type 0) (item : Item) (slots : List Slot) → P (record { item = item; mark = fresh }) → AllByRecursion P slots → AllByRecursion P (bring_back item slots)
@@ -38,7 +38,7 @@ each-brought P item (s ∷ ss) p h =
     cond_both (nat_lt item.number s.item.number) (record { item = item; mark = fresh } ∷ (s ∷ ss)) (if nat_eq item.number s.item.number then record { item = item; mark = fresh } ∷ ss else s ∷ bring_back item ss) (AllByRecursion P) (λ _. (p, h))
     (λ _. cond_both (nat_eq item.number s.item.number) (record { item = item; mark = fresh } ∷ ss) (s ∷ bring_back item ss) (AllByRecursion P) (λ _. (p, h.1)) (λ _. (h.0, each-brought P item ss p h.1)))
 
-brought-ordered : (item : Item) (slots : List Slot) → Ordered Comes slots → Ordered Comes (bring_back item slots)
+pub brought-ordered : (item : Item) (slots : List Slot) → Ordered Comes slots → Ordered Comes (bring_back item slots)
 brought-ordered item [] h = (tt, tt)
 brought-ordered item (s ∷ ss) h =
     cond_both (nat_lt item.number s.item.number) (record { item = item; mark = fresh } ∷ (s ∷ ss)) (if nat_eq item.number s.item.number then record { item = item; mark = fresh } ∷ ss else s ∷ bring_back item ss) (Ordered Comes)
@@ -54,7 +54,7 @@ pub each-all-brought : (P : Slot → Type 0) (items : List Item) (slots : List S
 each-all-brought P [] slots k h = h
 each-all-brought P (item ∷ items) slots k h = each-all-brought P items (bring_back item slots) k.1 (each-brought P item slots k.0 h)
 
-all-brought-ordered : (items : List Item) (slots : List Slot) → Ordered Comes slots → Ordered Comes (bring_all items slots)
+pub all-brought-ordered : (items : List Item) (slots : List Slot) → Ordered Comes slots → Ordered Comes (bring_all items slots)
 all-brought-ordered [] slots h = h
 all-brought-ordered (item ∷ items) slots h = all-brought-ordered items (bring_back item slots) (brought-ordered item slots h)
 

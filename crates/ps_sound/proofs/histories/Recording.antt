@@ -1,24 +1,21 @@
 -- What a call records, and what follows from the record.
-use Rattle.std.proofs.Common.{ℕ, ◌≡◌, ◌+◌, ◌^◌, min, Bool, true, false, cond, nat_eq, Option, Some, None, option_map, refl, sym, ◌∙◌, ap, subst, arith, inl, inr, if◌then◌else◌}
+use Rattle.std.proofs.Common.{ℕ, ◌≡◌, ◌+◌, ◌^◌, Bool, true, false, cond, nat_eq, Option, Some, None, refl, sym, ◌∙◌, ap, subst, arith, inl, inr, if◌then◌else◌}
 use Rattle.std.proofs.lemmas.Bool.{cond_both}
 use Rattle.ps_base.specs.declared.reason.Reason.{Reason}
 use Rattle.ps_base.specs.declared.refusal.Refusal.TheVariants.{Exhausted}
-use Rattle.ps_config.specs.declared.config.TopicConfig.{TopicConfig}
-use Rattle.ps_config.specs.declared.config.SubConfig.{SubConfig}
-use Rattle.ps_config.specs.declared.mask.Mask.{Mask}
-use Rattle.ps_config.specs.Masks.{has_bit, default_topic, default_sub, masked_topic, masked_sub}
 use Rattle.ps_model.specs.declared.command.Command.{Command}
-use Rattle.ps_model.specs.declared.command.Command.TheVariants.{Tick, UpdateTopic, UpdateSubscription, Pull}
+use Rattle.ps_model.specs.declared.command.Command.TheVariants.{Tick}
 use Rattle.ps_model.specs.declared.command.Entry.{Entry}
 use Rattle.ps_model.specs.declared.world.World.{World}
 use Rattle.ps_model.specs.Same.{world_parts, same_world}
-use Rattle.ps_model.specs.Checks.{argument_fault, lease_seconds, as_read}
+use Rattle.ps_model.specs.Checks.{argument_fault, as_read}
 use Rattle.ps_model.specs.Outcomes.{Outcome, Shows, Leaves, refuses, reply_in}
 use Rattle.ps_model.specs.Commands.{carried, is_full, checked, outcome}
 use Rattle.ps_model.specs.Settling.{settle}
 use Rattle.ps_model.specs.Step.{moment, settled, finished, carried_out, step, reply, entry_at, entry_of}
 use Rattle.ps_model.specs.History.{IsAccepted, recorded}
 use Rattle.ps_model.specs.Sound.{IsSound}
+use Rattle.ps_model.proofs.NormalForms.{read-twice}
 use Rattle.ps_model.proofs.SameLemmas.{same-world, world-same}
 use Rattle.ps_sound.specs.Recorded.{StandsStill, TellsAgain, ReplyIsRecorded, RecordedIsAccepted, RefusedOnlySettles, SettlesForGood}
 use Rattle.ps_sound.proofs.commands.Stamped.{stamped, outcome_stamped, carried-stamped, finished-stamped}
@@ -29,41 +26,6 @@ use Rattle.ps_sound.proofs.phases.Stepping.{stays_sound}
 -- a moment that was taken is taken again
 pub moment-twice : (w : World) (at : ℕ) → moment w (moment w at) ≡ moment w at
 moment-twice w at = omega arith
-
-if-twice : {A : Type 0} (b : Bool) (x y : A) → (if b then (if b then x else y) else y) ≡ (if b then x else y)
-if-twice true x y = refl
-if-twice false x y = refl
-
-topic-twice : (mask : Mask) (old config : TopicConfig) → masked_topic mask old (masked_topic mask old config) ≡ masked_topic mask old config
-topic-twice mask old config = λ i. record {
-  labels = if-twice (has_bit mask 0) config.labels old.labels i;
-  retention = if-twice (has_bit mask 1) config.retention old.retention i;
-}
-
-sub-twice : (mask : Mask) (old config : SubConfig) → masked_sub mask old (masked_sub mask old config) ≡ masked_sub mask old config
-sub-twice mask old config = λ i. record {
-  ack_seconds = if-twice (has_bit mask 0) config.ack_seconds old.ack_seconds i;
-  retain_acked = if-twice (has_bit mask 1) config.retain_acked old.retain_acked i;
-  retention = if-twice (has_bit mask 2) config.retention old.retention i;
-  labels = if-twice (has_bit mask 3) config.labels old.labels i;
-  ordering = old.ordering;
-  expiration = if-twice (has_bit mask 4) config.expiration old.expiration i;
-  filter = old.filter;
-  dead_letter = if-twice (has_bit mask 5) config.dead_letter old.dead_letter i;
-  retry = if-twice (has_bit mask 6) config.retry old.retry i;
-  exactly_once = if-twice (has_bit mask 7) config.exactly_once old.exactly_once i;
-}
-
-lease-twice : (o : Option ℕ) → option_map lease_seconds (option_map lease_seconds o) ≡ option_map lease_seconds o
-lease-twice None = refl
-lease-twice (Some seconds) = ap Some (omega arith)
-
--- a command that was read is read as it is
-pub read-twice : (c : Command) → as_read (as_read c) ≡ as_read c
-read-twice (UpdateTopic topic mask config) = ap (UpdateTopic topic mask) (topic-twice mask default_topic config)
-read-twice (UpdateSubscription subscription mask config) = ap (UpdateSubscription subscription mask) (sub-twice mask default_sub config)
-read-twice (Pull subscription most budget seconds) = let few : min (min most 1000) 1000 ≡ min most 1000 = omega arith in λ i. Pull subscription (few i) budget (lease-twice seconds i)
-read-twice _ = refl
 
 -- worlds with the same parts, moments and counts
 same-all : (a b : World) → a.now ≡ b.now → a.count ≡ b.count → same_world a b ≡ true → a ≡ b

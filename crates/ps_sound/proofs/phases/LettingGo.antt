@@ -21,7 +21,7 @@ abbrev pub let_all_go : ℕ → World → World
 let_all_go t w = record w { messages = map (let_go t w) w.messages }
 
 -- a member that passes its own test is some member that does
-any-own : {A : Type 0} (test : A → A → Bool) (xs : List A) → AllByRecursion (λ x. test x x ≡ true → list_any (test x) xs ≡ true) xs
+pub any-own : {A : Type 0} (test : A → A → Bool) (xs : List A) → AllByRecursion (λ x. test x x ≡ true → list_any (test x) xs ≡ true) xs
 any-own test [] = tt
 any-own test (x ∷ xs) = (
   λ e. or_left (test x x) (list_any (test x) xs) e,
@@ -77,7 +77,7 @@ let_go-asked t w = each-map (λ (m : MessageRow). Unit {0}) (λ (m : MessageRow)
 abbrev pub HeldIsWanted : ℕ → World → SnapRow → Type 0
 HeldIsWanted t w r = (m : MessageRow) → m.topic ≡ r.topic → is_held_by m.number (hold_of r) ≡ true → is_wanted t w.marks (holds_of w m.topic) m ≡ true
 
-held-any : (snaps : List SnapRow) → AllByRecursion (λ (r : SnapRow). (topic number : ℕ) → nat_eq r.topic topic ≡ true → is_held_by number (hold_of r) ≡ true → list_any (is_held_by number) (map hold_of (filter (λ (x : SnapRow). nat_eq x.topic topic) snaps)) ≡ true) snaps
+pub held-any : (snaps : List SnapRow) → AllByRecursion (λ (r : SnapRow). (topic number : ℕ) → nat_eq r.topic topic ≡ true → is_held_by number (hold_of r) ≡ true → list_any (is_held_by number) (map hold_of (filter (λ (x : SnapRow). nat_eq x.topic topic) snaps)) ≡ true) snaps
 held-any [] = tt
 held-any (x ∷ xs) = (
   λ topic number e h. rw e (or_left (is_held_by number (hold_of x)) (list_any (is_held_by number) (map hold_of (filter (λ (y : SnapRow). nat_eq y.topic topic) xs))) h),

@@ -95,7 +95,7 @@ letters-rest t w h = flat_map-none (λ (sub : SubRow). letters_of w sub (dead_le
     none sub s (Done c) e = refl
     none sub s (Gone c) e = refl
 
-lapsed-same : (mark : Mark) → is_gone mark ≡ true → lapsed mark ≡ mark
+pub lapsed-same : (mark : Mark) → is_gone mark ≡ true → lapsed mark ≡ mark
 lapsed-same (Backlog f u l) e = absurd (cc (e))
 lapsed-same (Leased f l d) e = absurd (cc (e))
 lapsed-same (Ahead f) e = absurd (cc (e))

@@ -17,7 +17,8 @@ use Rattle.ps_model.specs.Step.{moment, settled, finished, carried_out, reply, e
 use Rattle.ps_model.specs.History.{recorded, called}
 use Rattle.ps_model.proofs.SameLemmas.{same-world}
 use Rattle.ps_sound.proofs.commands.Refused.{is_refused}
-use Rattle.ps_sound.proofs.histories.Recording.{settled_if, moment-twice, read-twice, ticked}
+use Rattle.ps_model.proofs.NormalForms.{read-twice}
+use Rattle.ps_sound.proofs.histories.Recording.{settled_if, moment-twice, ticked}
 
 -- the world after a call is what its command left, but for the moment and the count
 called-parts : (w : World) (at : ℕ) (c : Command) → is_full w ≡ false → world_parts (called w (at, c)) ≡ world_parts (carried_out w (moment w at) c)

@@ -223,32 +223,32 @@ received_is_handed_out w at name most budget seconds exactly_once ordering items
     }
 
     by_detached : (sub : SubRow) → sub_named v name ≡ Some sub → (detached : Bool)
-        → reply_in (pull_from v t sub (min most 1000) budget (unwrap_or (option_map lease_seconds seconds) sub.config.ack_seconds) detached) ≡ Received exactly_once ordering items
-        → world_parts after ≡ world_parts (finished t v (pull_from v t sub (min most 1000) budget (unwrap_or (option_map lease_seconds seconds) sub.config.ack_seconds) detached))
+        → reply_in (pull_from v t sub (min most 1000) (min budget 10000000) (unwrap_or (option_map lease_seconds seconds) sub.config.ack_seconds) detached) ≡ Received exactly_once ordering items
+        → world_parts after ≡ world_parts (finished t v (pull_from v t sub (min most 1000) (min budget 10000000) (unwrap_or (option_map lease_seconds seconds) sub.config.ack_seconds) detached))
         → Found Goal (sub_named after name)
     by_detached sub found true e left = absurd (cc (e))
     by_detached sub found false e parts =
-        subst (Found Goal) (sym (ap (find (λ (r : SubRow). bytes_eq r.name name)) (ap (λ p. p.1.1.1.1.1.0) parts) ∙ lent-found t w.count v name sub (min most 1000) budget asked found is)) (record {
+        subst (Found Goal) (sym (ap (find (λ (r : SubRow). bytes_eq r.name name)) (ap (λ p. p.1.1.1.1.1.0) parts) ∙ lent-found t w.count v name sub (min most 1000) (min budget 10000000) asked found is)) (record {
           exactly_once = sym (ap exactly_once_in e);
           ordering = sym (ap ordering_in e);
           each = subst (AllByRecursion (IsHandedOut after lending (t + 1000 * asked))) (ap items_in e)
               (each-then (IsHandedOut leaving lending (t + 1000 * asked)) (IsHandedOut after lending (t + 1000 * asked)) (received_all v sub handing)
-              (λ r. handed-same after leaving lending (t + 1000 * asked) r (ap (λ p. p.1.1.1.1.1.1.1.0) parts) (ap (λ p. p.1.1.1.1.1.1.1.1) parts)) (handed-out t w.count v name sub (min most 1000) budget asked found is));
+              (λ r. handed-same after leaving lending (t + 1000 * asked) r (ap (λ p. p.1.1.1.1.1.1.1.0) parts) (ap (λ p. p.1.1.1.1.1.1.1.1) parts)) (handed-out t w.count v name sub (min most 1000) (min budget 10000000) asked found is));
         })
       where
         asked : ℕ
         asked = unwrap_or (option_map lease_seconds seconds) sub.config.ack_seconds
 
         handing : List Handed
-        handing = given t w.count v name sub (min most 1000) budget asked found is
+        handing = given t w.count v name sub (min most 1000) (min budget 10000000) asked found is
 
         lending : SubRow
-        lending = lent t w.count v name sub (min most 1000) budget asked found is
+        lending = lent t w.count v name sub (min most 1000) (min budget 10000000) asked found is
 
         leaving : World
-        leaving = left t w.count v name sub (min most 1000) budget asked found is
+        leaving = left t w.count v name sub (min most 1000) (min budget 10000000) asked found is
 
-    by_sub : (o : Option SubRow) → sub_named v name ≡ o → reply_in (pull_at v t name (min most 1000) budget (option_map lease_seconds seconds) o) ≡ Received exactly_once ordering items
-        → world_parts after ≡ world_parts (finished t v (pull_at v t name (min most 1000) budget (option_map lease_seconds seconds) o)) → Found Goal (sub_named after name)
+    by_sub : (o : Option SubRow) → sub_named v name ≡ o → reply_in (pull_at v t name (min most 1000) (min budget 10000000) (option_map lease_seconds seconds) o) ≡ Received exactly_once ordering items
+        → world_parts after ≡ world_parts (finished t v (pull_at v t name (min most 1000) (min budget 10000000) (option_map lease_seconds seconds) o)) → Found Goal (sub_named after name)
     by_sub None found e parts = absurd (cc (e))
     by_sub (Some sub) found e parts = by_detached sub found sub.detached e parts

@@ -16,6 +16,7 @@ returns c = record {
   no_budget = refl;
   as_asked = refl;
   too_many = refl;
+  too_many_bytes = refl;
   too_short = refl;
   shortest = refl;
   longest = refl;

@@ -1,0 +1,13 @@
+pub mod Filters
+pub mod Slotwise
+pub mod Standing
+pub mod Passes
+pub mod Growing
+pub mod Seen
+pub mod Marking
+pub mod Following
+pub mod Changing
+pub mod Bringing
+pub mod Merging
+pub mod GoneLaw
+pub mod LiveHistories
