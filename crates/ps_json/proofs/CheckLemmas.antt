@@ -1,13 +1,13 @@
 -- Checks one after another, and what reading a name or a field tells of them.
 use Rattle.std.proofs.Common.{◌≡◌, ℕ, List, [], ◌∷◌, ◌++◌, Bool, true, false, not, if◌then◌else◌, Option, Some, None, option_map, is_some, Result, Ok, Err, IsErrAnd, refl, ap, sym, ◌∙◌, true≢false}
 use Rattle.ps_base.specs.declared.reason.Reason.{Reason}
-use Rattle.ps_base.specs.declared.reason.Reason.TheVariants.{Shape, UnknownField}
+use Rattle.ps_base.specs.declared.reason.Reason.TheVariants.{Name, Shape, UnknownField}
 use Rattle.ps_base.specs.declared.refusal.Refusal.{Refusal}
 use Rattle.ps_base.specs.declared.refusal.Refusal.TheVariants.{InvalidArgument}
 use Rattle.ps_message.specs.Lists.{first_of}
 use Rattle.ps_json.specs.declared.read_error.ReadError.{ReadError}
 use Rattle.ps_json.specs.declared.read_error.ReadError.TheVariants.{Refused}
-use Rattle.ps_json.specs.Checks.{broken, checked, shape, unknown, Reads}
+use Rattle.ps_json.specs.Checks.{broken, checked, name_read, shape, unknown, Reads}
 use Rattle.ps_json.specs.Tables.{least}
 
 -- a reading that refuses what is refused
@@ -57,9 +57,13 @@ pub same_name : (test : Bool) (name given : List ℕ) → Some given ≡ (if tes
 same_name true name given is = cc
 same_name false name given is = cc
 
-pub bad_name : (test : Bool) (name : List ℕ) (reason : Reason) → None ≡ (if test then Some name else None) → broken (not test) reason ≡ Some (InvalidArgument reason)
-bad_name true name reason is = cc
-bad_name false name reason is = refl
+pub name_given : (test : Bool) (name given : List ℕ) → Some given ≡ (if test then Some name else None) → name_read test name ≡ Ok given
+name_given true name given is = cc
+name_given false name given is = cc
+
+pub name_refused : (test : Bool) (name : List ℕ) → None ≡ (if test then Some name else None) → name_read test name ≡ Err (InvalidArgument Name)
+name_refused true name is = cc
+name_refused false name is = refl
 
 -- what reading a field gave tells its shape
 pub good_shape : {A : Type 0} (path : List ℕ) (value : Option A) (given : A) → Some given ≡ value → shape path value ≡ None

@@ -1,11 +1,10 @@
 -- Fields that are taken out, and those that stay.
-use Rattle.std.proofs.Common.{◌≡◌, ℕ, List, [], ◌∷◌, map, Bor, Bool, true, false, ◌||◌, cond, Option, Some, string_bytes, nat_cmp, is_eq, Ordering, Less, Equal, Greater, bytes_eq, true≢false, ◌&&◌, ◌==◌, not, length, ◌↔◌, IsTrue, if◌then◌else◌, arith, refl, ap, ◌∙◌, sym}
-use Rattle.std.proofs.lemmas.Bool.Decides.{same_from_decides}
+use Rattle.std.proofs.Common.{◌≡◌, ℕ, List, [], ◌∷◌, Bool, true, false, cond, Option, Some, string_bytes, nat_cmp, is_eq, Ordering, Less, Equal, Greater, bytes_eq, true≢false, ◌&&◌, ◌==◌, not, length, ◌↔◌, IsTrue, if◌then◌else◌, arith, refl, ap, ◌∙◌, sym}
 use Rattle.std.proofs.lemmas.Map.Text.{is_eq-slice_cmp}
 use Rattle.std.proofs.lemmas.Slice.Eq.{bytes_eq-Decides}
 use Rattle.std.specs.Cmp.Lexicographic.{slice_cmp}
 use Rattle.std.specs.Map.{remove_entry, keys_of}
-use Rattle.std.specs.List.{list_all, list_any}
+use Rattle.std.specs.List.{list_all}
 use Rattle.std.specs.BTreeMap.{is_at}
 use Rattle.std.specs.Ordering.{match_ordering}
 use Rattle.serde_json.specs.Data.{Data, Members, no_members, member}
@@ -13,7 +12,7 @@ use Rattle.serde_json.specs.Find.{get_member}
 use Rattle.serde_json.specs.View.{items_view, members_view}
 use Rattle.serde_json.specs.declared.value.Value.{Value}
 use Rattle.serde_json.proofs.Views.{Entry}
-use Rattle.ps_json.specs.Fields.{without, all_names, has_items, has_members, is_one_of}
+use Rattle.ps_json.specs.Fields.{without, all_names, has_items, has_members}
 
 members_view-cond : (b : Bool) (es fs : List Entry) → members_view (cond b es fs) ≡ cond b (members_view es) (members_view fs)
 members_view-cond true es fs = refl
@@ -68,11 +67,3 @@ has_members-members_view true [] is = refl
 has_members-members_view false [] is = absurd (true≢false (sym (is.1 refl)))
 has_members-members_view true (e ∷ es) is = let none : length (e ∷ es) ≡ 0 = is.0 refl in absurd (omega arith)
 has_members-members_view false (e ∷ es) is = refl
-
-turned : (xs ys : List ℕ) → bytes_eq xs ys ≡ bytes_eq ys xs
-turned xs ys = same_from_decides (bytes_eq xs ys) (bytes_eq ys xs) (bytes_eq-Decides xs ys) ((λ e. sym ((bytes_eq-Decides ys xs).0 e)), (λ e. (bytes_eq-Decides ys xs).1 (sym e)))
-
--- a name among borrowed ones
-pub any_of : (names : List (Bor (List ℕ))) (name : List ℕ) → list_any (λ one. bytes_eq one.now name) names ≡ is_one_of (map (λ one. one.now) names) name
-any_of [] name = refl
-any_of (one ∷ names) name = rw (turned one.now name) (ap (λ rest. bytes_eq name one.now || rest) (any_of names name))

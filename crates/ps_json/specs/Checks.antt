@@ -1,7 +1,7 @@
 -- The checks on a call, each a refusal if it is broken, and what a reading answers.
 use Rattle.std.specs.Prelude.{◌≡◌, ℕ, List, Bool, if◌then◌else◌, Option, Some, None, option_map, Result, Ok, Err, ⊤}
 use Rattle.ps_base.specs.declared.reason.Reason.{Reason}
-use Rattle.ps_base.specs.declared.reason.Reason.TheVariants.{Shape, UnknownField}
+use Rattle.ps_base.specs.declared.reason.Reason.TheVariants.{Name, Shape, UnknownField}
 use Rattle.ps_base.specs.declared.refusal.Refusal.{Refusal}
 use Rattle.ps_base.specs.declared.refusal.Refusal.TheVariants.{InvalidArgument}
 use Rattle.ps_message.specs.Lists.{first_of}
@@ -12,6 +12,10 @@ use Rattle.ps_json.specs.Tables.{least}
 -- refused if the test holds
 abbrev pub broken : Bool → Reason → Option Refusal
 broken test reason = if test then Some (InvalidArgument reason) else None
+
+-- the name in a path, if it fits its grammar
+abbrev pub name_read : Bool → List ℕ → Result (List ℕ) Refusal
+name_read fits name = if fits then Ok name else Err (InvalidArgument Name)
 
 -- refused if the value at this path is of another kind
 abbrev pub shape : {A : Type 0} → List ℕ → Option A → Option Refusal

@@ -1,9 +1,9 @@
 -- The fields of a JSON object.
-use Rattle.std.specs.Prelude.{ℕ, List, [], ◌∷◌, Bool, true, false, ◌&&◌, not, length, nat_lt, if◌then◌else◌, Option, Some, None, option_and_then}
+use Rattle.std.specs.Prelude.{ℕ, List, [], ◌∷◌, Bool, true, false, ◌&&◌, length, nat_lt, if◌then◌else◌, Option, option_and_then}
 use Rattle.std.specs.List.{list_any}
 use Rattle.std.specs.Str.{bytes_eq}
 use Rattle.serde_json.specs.Data.{Num, unsigned, negative, float, Data, null, boolean, number, string, array, object, Items, no_items, item, Members, no_members, member}
-use Rattle.serde_json.specs.Find.{get_member, as_number, as_str, as_u64}
+use Rattle.serde_json.specs.Find.{get_member, as_number, as_object, as_str, as_u64}
 
 -- the fields as a list of names and values, in the order in which they stand
 abbrev pub pairs_of : Members → List (List ℕ × Data)
@@ -41,6 +41,10 @@ whole_field name ms = option_and_then as_u64 (option_and_then as_number (get_mem
 abbrev pub text_field : List ℕ → Members → Option (List ℕ)
 text_field name ms = option_and_then as_str (get_member name ms)
 
+-- the fields of the object in a field, if it is one
+abbrev pub object_in : List ℕ → Members → Option Members
+object_in name ms = option_and_then as_object (get_member name ms)
+
 -- 0 is written `0` alone: another spelling is a float, and filled
 abbrev pub is_nonzero : Num → Bool
 is_nonzero (unsigned n) = nat_lt 0 n
@@ -68,8 +72,3 @@ is_filled (object ms) = has_members ms
 
 abbrev pub is_one_of : List (List ℕ) → List ℕ → Bool
 is_one_of names name = list_any (bytes_eq name) names
-
--- the least name in byte order, in which members stand, whose field is filled and is none of these
-abbrev pub first_filled : List (List ℕ) → Members → Option (List ℕ)
-first_filled built no_members = None
-first_filled built (member k d ms) = if not (is_one_of built k) && is_filled d then Some k else first_filled built ms

@@ -8,6 +8,7 @@ use Rattle.base64.specs.Engines.{standard, standard_no_pad, url_safe, url_safe_n
 use Rattle.base64.specs.GeneralPurpose.{decode_of}
 use Rattle.serde_json.specs.Data.{Data, null, boolean, number, string, array, object, Members}
 use Rattle.serde_json.specs.Find.{as_bool, as_i64, as_str, as_array, as_object}
+use Rattle.ps_json.specs.Durations.{milliseconds}
 use Rattle.ps_json.specs.Fields.{is_null, pairs_of, values_of}
 use Rattle.ps_message.specs.Lists.{first_of}
 
@@ -52,6 +53,11 @@ whole_value (object ms) = None
 
 abbrev pub whole_of : Option Data → Option ℤ
 whole_of = or_default (pos 0) whole_value
+
+-- ---- duration: seconds with at most three decimals that aren't 0, in milliseconds
+
+abbrev pub duration_value : Data → Option ℕ
+duration_value value = option_and_then milliseconds (as_str value)
 
 -- ---- bytes: canonical base64 (RFC 4648) in the standard or the URL-safe alphabet, with its padding or with none
 

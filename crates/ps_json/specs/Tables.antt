@@ -1,5 +1,5 @@
 -- Which fields an object may have, and those that no table lists.
-use Rattle.std.specs.Prelude.{ℕ, List, [], ◌∷◌, map, filter, fold, Bool, true, ◌&&◌, not, codes, if◌then◌else◌, Option, Some, None}
+use Rattle.std.specs.Prelude.{ℕ, List, [], ◌∷◌, map, filter, fold, Bool, ◌&&◌, not, codes, if◌then◌else◌, Option, Some, None}
 use Rattle.serde_json.specs.Data.{Data, Members}
 use Rattle.ps_base.specs.Keys.{is_below}
 use Rattle.ps_json.specs.declared.tables.Table.{Table}
@@ -8,16 +8,8 @@ use Rattle.ps_json.specs.declared.paths.Place.{Place}
 use Rattle.ps_json.specs.Fields.{is_null, is_one_of, pairs_of}
 use Rattle.ps_json.specs.Paths.{path_in}
 
--- the fields that are settings of a subscription, and those that name or show it
-abbrev pub subscription_fields : List (List ℕ)
-subscription_fields =
-    codes "name" ∷ codes "topic" ∷ codes "ackDeadlineSeconds" ∷ codes "retainAckedMessages" ∷ codes "messageRetentionDuration" ∷ codes "labels" ∷ codes "enableMessageOrdering"
-    ∷ codes "expirationPolicy" ∷ codes "filter" ∷ codes "deadLetterPolicy" ∷ codes "retryPolicy" ∷ codes "enableExactlyOnceDelivery" ∷ codes "pushConfig" ∷ codes "detached"
-    ∷ codes "topicMessageRetentionDuration" ∷ codes "state" ∷ codes "analyticsHubSubscriptionInfo" ∷ codes "bigqueryConfig" ∷ codes "cloudStorageConfig" ∷ codes "messageTransforms" ∷ codes "tags" ∷ []
-
 -- the fields of an object by its table
 abbrev pub fields_of : Table → List (List ℕ)
-fields_of table.Subscription = subscription_fields
 fields_of table.Publish = codes "messages" ∷ []
 fields_of table.Message = codes "data" ∷ codes "attributes" ∷ codes "orderingKey" ∷ codes "messageId" ∷ codes "publishTime" ∷ []
 fields_of table.Pull = codes "maxMessages" ∷ codes "returnImmediately" ∷ []

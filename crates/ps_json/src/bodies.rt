@@ -1,7 +1,10 @@
-// What each call asks, by the name in its path and the fields of its body.
+// What each call asks, by the names in its path, its query and the fields of its body.
 
 pub mod acknowledging;
+pub mod listing;
+pub mod naming;
 pub mod publishing;
 pub mod pulling;
+pub mod resource;
 pub mod subscription;
 pub mod topic;

@@ -1,16 +1,23 @@
 // The command that a call asks.
-ghost use Rattle.std.specs.Prelude.{◌≡◌, Ok, IfOk, IfErr, map};
+ghost use Rattle.std.specs.Prelude.{◌≡◌, Ok, IfOk, IfErr};
 ghost use Rattle.serde_json.specs.View.{view, members_view};
+ghost use Rattle.ps_json.specs.declared.call.CallKind.TheVariants as kind;
+ghost use Rattle.ps_json.specs.declared.named.Query.{Query};
 ghost use Rattle.ps_json.specs.declared.read_error.ReadError.TheVariants as error;
 ghost use Rattle.ps_json.specs.Checks.{Reads, Refuses};
-ghost use Rattle.ps_json.specs.Commands.{command_of, fields_of, built_fields, unbuilt};
+ghost use Rattle.ps_json.specs.Commands.{command_of, fields_of, unbuilt};
+ghost use Rattle.ps_json.specs.Names.{call_name};
 
 use crate::bodies::acknowledging::acknowledge;
+use crate::bodies::listing::{list_subscriptions, list_topic_subscriptions, list_topics};
+use crate::bodies::naming::{
+    delete_subscription, delete_topic, detach, get_subscription, get_topic,
+};
 use crate::bodies::publishing::publish;
 use crate::bodies::pulling::pull;
-use crate::bodies::subscription::create_subscription;
-use crate::bodies::topic::create_topic;
-use crate::fields::first_filled;
+use crate::bodies::subscription::{create_subscription, update_subscription};
+use crate::bodies::topic::{create_topic, update_topic};
+use crate::named::{PathNames, Query, sub_name, topic_name};
 use crate::read_error::{ReadError, refused};
 use ps_base::{OutOfMemory, Reason, Refusal, Text};
 use ps_model::Command;
@@ -45,27 +52,140 @@ pub enum CallKind {
     ListSnapshots,
 }
 
-/// The command that a call asks on the resource of this name with this body, or the first check that is broken. A call
-/// without a line here isn't built, and is refused before its body is looked at.
+impl CallKind {
+    /// The name of the call, as a caller reads it.
+    pub fn name(self) -> &'static str
+        ensures { result.now ≡ call_name self }
+    {
+        match self {
+            CallKind::CreateTopic => "CreateTopic",
+            CallKind::UpdateTopic => "UpdateTopic",
+            CallKind::GetTopic => "GetTopic",
+            CallKind::DeleteTopic => "DeleteTopic",
+            CallKind::ListTopics => "ListTopics",
+            CallKind::ListTopicSubscriptions => "ListTopicSubscriptions",
+            CallKind::ListTopicSnapshots => "ListTopicSnapshots",
+            CallKind::Publish => "Publish",
+            CallKind::CreateSubscription => "CreateSubscription",
+            CallKind::UpdateSubscription => "UpdateSubscription",
+            CallKind::GetSubscription => "GetSubscription",
+            CallKind::DeleteSubscription => "DeleteSubscription",
+            CallKind::ListSubscriptions => "ListSubscriptions",
+            CallKind::Pull => "Pull",
+            CallKind::Acknowledge => "Acknowledge",
+            CallKind::ModifyAckDeadline => "ModifyAckDeadline",
+            CallKind::Seek => "Seek",
+            CallKind::Detach => "Detach",
+            CallKind::CreateSnapshot => "CreateSnapshot",
+            CallKind::UpdateSnapshot => "UpdateSnapshot",
+            CallKind::GetSnapshot => "GetSnapshot",
+            CallKind::DeleteSnapshot => "DeleteSnapshot",
+            CallKind::ListSnapshots => "ListSnapshots",
+        }
+    }
+}
+
+/// The command that a call asks by the names in its path, its query and its body, or the first check that is broken. A
+/// call without a line here isn't built, and is refused before its body is looked at.
 pub fn command(
     alloc: Global,
     call: CallKind,
-    name: &str,
+    path: &PathNames,
+    query: &Query,
     body: &Value,
 ) -> Result<Command, ReadError>
-    ensures { Reads result (command_of call name.now (view body.now)) }
+    ensures { Reads result (command_of call path.now query.now (view body.now)) }
 {
     match call {
-        CallKind::CreateTopic => create_topic(alloc, name, built_fields(alloc, body, &["name"])?),
-        CallKind::CreateSubscription => {
-            let fields = built_fields(alloc, body, &["name", "topic"])?;
-            create_subscription(alloc, name, fields)
-        }
-        CallKind::Publish => publish(alloc, name, fields_of(body)?),
-        CallKind::Pull => pull(alloc, name, fields_of(body)?),
-        CallKind::Acknowledge => acknowledge(alloc, name, fields_of(body)?),
-        _ => Err(unbuilt(alloc)?),
+        CallKind::CreateTopic => create_topic_at(alloc, path, body),
+        CallKind::UpdateTopic => update_topic_at(alloc, path, body),
+        CallKind::GetTopic => get_topic(alloc, path),
+        CallKind::DeleteTopic => delete_topic(alloc, path),
+        CallKind::ListTopics => list_topics(alloc, path, query),
+        CallKind::ListTopicSubscriptions => list_topic_subscriptions(alloc, path, query),
+        CallKind::Publish => publish_at(alloc, path, body),
+        CallKind::CreateSubscription => create_subscription_at(alloc, path, body),
+        CallKind::UpdateSubscription => update_subscription_at(alloc, path, body),
+        CallKind::GetSubscription => get_subscription(alloc, path),
+        CallKind::DeleteSubscription => delete_subscription(alloc, path),
+        CallKind::ListSubscriptions => list_subscriptions(alloc, path, query),
+        CallKind::Pull => pull_at(alloc, path, body),
+        CallKind::Acknowledge => acknowledge_at(alloc, path, body),
+        CallKind::Detach => detach_at(alloc, path, body),
+        _ => Err(unbuilt(alloc, call)?),
     }
+}
+
+fn create_topic_at(alloc: Global, path: &PathNames, body: &Value) -> Result<Command, ReadError>
+    ensures { (query : Query)
+        → Reads result (command_of kind.CreateTopic path.now query (view body.now)) }
+{
+    let name = topic_name(alloc, path)?;
+    create_topic(alloc, name.as_str(), fields_of(body)?)
+}
+
+fn update_topic_at(alloc: Global, path: &PathNames, body: &Value) -> Result<Command, ReadError>
+    ensures { (query : Query)
+        → Reads result (command_of kind.UpdateTopic path.now query (view body.now)) }
+{
+    let name = topic_name(alloc, path)?;
+    update_topic(alloc, name.as_str(), fields_of(body)?)
+}
+
+fn publish_at(alloc: Global, path: &PathNames, body: &Value) -> Result<Command, ReadError>
+    ensures { (query : Query)
+        → Reads result (command_of kind.Publish path.now query (view body.now)) }
+{
+    let name = topic_name(alloc, path)?;
+    publish(alloc, name.as_str(), fields_of(body)?)
+}
+
+fn create_subscription_at(
+    alloc: Global,
+    path: &PathNames,
+    body: &Value,
+) -> Result<Command, ReadError>
+    ensures { (query : Query)
+        → Reads result (command_of kind.CreateSubscription path.now query (view body.now)) }
+{
+    let name = sub_name(alloc, path)?;
+    create_subscription(alloc, name.as_str(), fields_of(body)?)
+}
+
+fn update_subscription_at(
+    alloc: Global,
+    path: &PathNames,
+    body: &Value,
+) -> Result<Command, ReadError>
+    ensures { (query : Query)
+        → Reads result (command_of kind.UpdateSubscription path.now query (view body.now)) }
+{
+    let name = sub_name(alloc, path)?;
+    update_subscription(alloc, name.as_str(), fields_of(body)?)
+}
+
+fn pull_at(alloc: Global, path: &PathNames, body: &Value) -> Result<Command, ReadError>
+    ensures { (query : Query)
+        → Reads result (command_of kind.Pull path.now query (view body.now)) }
+{
+    let name = sub_name(alloc, path)?;
+    pull(alloc, name.as_str(), fields_of(body)?)
+}
+
+fn acknowledge_at(alloc: Global, path: &PathNames, body: &Value) -> Result<Command, ReadError>
+    ensures { (query : Query)
+        → Reads result (command_of kind.Acknowledge path.now query (view body.now)) }
+{
+    let name = sub_name(alloc, path)?;
+    acknowledge(alloc, name.as_str(), fields_of(body)?)
+}
+
+fn detach_at(alloc: Global, path: &PathNames, body: &Value) -> Result<Command, ReadError>
+    ensures { (query : Query)
+        → Reads result (command_of kind.Detach path.now query (view body.now)) }
+{
+    let name = sub_name(alloc, path)?;
+    detach(alloc, name.as_str(), fields_of(body)?)
 }
 
 /// The fields of a body.
@@ -79,30 +199,10 @@ fn fields_of(body: &Value) -> Result<&Map<String, Value>, ReadError>
     }
 }
 
-/// The fields of a body, of which only these may be filled.
-fn built_fields<'a>(
-    alloc: Global,
-    body: &'a Value,
-    built: &[&str],
-) -> Result<&'a Map<String, Value>, ReadError>
-    ensures fields { IfOk result (λ fields. built_fields (map (λ name. name.now) built.now) (view body.now)
-        ≡ Ok (members_view fields.now.entries)) }
-    ensures refusal { IfErr result (λ e. Refuses e (built_fields (map (λ name. name.now) built.now) (view body.now))) }
+/// The error of a call that isn't built. Fails only if out of memory.
+fn unbuilt(alloc: Global, call: CallKind) -> Result<ReadError, OutOfMemory>
+    ensures { IfOk result (λ e. e ≡ error.Refused (unbuilt call)) }
 {
-    let fields = fields_of(body)?;
-    match first_filled(built, fields) {
-        Some(field) => {
-            let field = Text::from_str(alloc, field)?;
-            Err(ReadError::Refused(Refusal::Unimplemented(field)))
-        }
-        None => Ok(fields),
-    }
-}
-
-/// The error of a call that isn't built, or that the API doesn't have. Fails only if out of memory.
-pub fn unbuilt(alloc: Global) -> Result<ReadError, OutOfMemory>
-    ensures { IfOk result (λ e. e ≡ error.Refused unbuilt) }
-{
-    let message = Text::from_str(alloc, "route")?;
-    Ok(ReadError::Refused(Refusal::Unimplemented(message)))
+    let name = Text::from_str(alloc, call.name())?;
+    Ok(ReadError::Refused(Refusal::Unimplemented(name)))
 }

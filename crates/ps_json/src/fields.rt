@@ -1,8 +1,8 @@
 // The fields of a JSON object.
-ghost use Rattle.std.specs.Prelude.{◌≡◌, map, option_map, string_bytes};
+ghost use Rattle.std.specs.Prelude.{◌≡◌, option_map, string_bytes};
 ghost use Rattle.serde_json.specs.Find.{get_member};
 ghost use Rattle.serde_json.specs.View.{view, members_view};
-ghost use Rattle.ps_json.specs.Fields.{is_one_of, without, whole_field, text_field};
+ghost use Rattle.ps_json.specs.Fields.{without, whole_field, text_field};
 ghost use Rattle.ps_json.specs.Fields as spec;
 
 use serde_json::{Map, Value};
@@ -47,6 +47,14 @@ pub fn take_text(fields: &mut Map<String, Value>, name: &str) -> Option<String>
     }
 }
 
+/// The fields of the object in a field, if it is one.
+pub fn object_in<'a>(fields: &'a Map<String, Value>, name: &str) -> Option<&'a Map<String, Value>>
+    ensures { option_map (λ inner. members_view inner.now.entries) result
+        ≡ spec.object_in name.now (members_view fields.now.entries) }
+{
+    field(fields, name)?.as_object()
+}
+
 /// The value is not null, false, 0, an empty text, an empty list or an empty object.
 pub fn is_filled(value: &Value) -> bool
     ensures { result ≡ spec.is_filled (view value.now) }
@@ -59,23 +67,4 @@ pub fn is_filled(value: &Value) -> bool
         Value::Array(items) => !items.is_empty(),
         Value::Object(fields) => !fields.is_empty(),
     }
-}
-
-/// The least name whose field is filled and is none of these, which are built.
-pub fn first_filled<'a>(built: &[&str], fields: &'a Map<String, Value>) -> Option<&'a str>
-    ensures { option_map (λ t. t.now) result
-        ≡ spec.first_filled (map (λ name. name.now) built.now) (members_view fields.now.entries) }
-{
-    for (key, value) in fields.iter() {
-        if !is_one_of(built, key.as_str()) && is_filled(value) {
-            return Some(key.as_str());
-        }
-    }
-    None
-}
-
-fn is_one_of(names: &[&str], name: &str) -> bool
-    ensures { result ≡ is_one_of (map (λ name. name.now) names.now) name.now }
-{
-    names.contains(&name)
 }

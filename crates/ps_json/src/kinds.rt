@@ -6,8 +6,9 @@ ghost use Rattle.base64.specs.GeneralPurpose.{decode_of};
 ghost use Rattle.serde_json.specs.Find.{get_member};
 ghost use Rattle.serde_json.specs.View.{view, members_view};
 ghost use Rattle.ps_base.specs.Keys.{has_ascending_keys};
-ghost use Rattle.ps_json.specs.Kinds.{bytes_of, flag_of, list_of, map_of, payload_of, text_of, texts_in, whole_of, whole_text};
+ghost use Rattle.ps_json.specs.Kinds.{bytes_of, duration_value, flag_of, list_of, map_of, payload_of, text_of, texts_in, whole_of, whole_text, whole_value};
 
+use crate::durations::milliseconds;
 use crate::fields::field;
 use base64::DecodeAllocError;
 use base64::engine::general_purpose::{
@@ -46,20 +47,39 @@ pub fn whole(fields: &Map<String, Value>, name: &str) -> Option<i64>
 {
     match field(fields, name) {
         None | Some(Value::Null) => Some(0),
-        Some(Value::Number(number)) => number.as_i64(),
-        Some(Value::String(text)) => whole_text(text.as_str()),
-        Some(_) => None,
+        Some(value) => whole_in(value),
+    }
+}
+
+/// The whole number that a value is.
+pub fn whole_in(value: &Value) -> Option<i64>
+    ensures { result ≡ whole_value (view value.now) }
+{
+    match value {
+        Value::Number(number) => number.as_i64(),
+        Value::String(text) => whole_text(text.as_str()),
+        _ => None,
     }
 }
 
 /// The number that is written as decimal digits with or without a minus.
-fn whole_text(text: &str) -> Option<i64>
+pub fn whole_text(text: &str) -> Option<i64>
     ensures { result ≡ whole_text text.now }
 {
     if text.starts_with('+') {
         return None;
     }
     text.parse().ok()
+}
+
+/// The milliseconds of the duration that a value is.
+pub fn duration_in(value: &Value) -> Option<u64>
+    ensures { result ≡ duration_value (view value.now) }
+{
+    match value {
+        Value::String(text) => milliseconds(text.as_str()),
+        _ => None,
+    }
 }
 
 /// The bytes of a base64 text in the standard or the URL-safe alphabet, with its padding or with none, and no

@@ -2,7 +2,7 @@
 ghost use Rattle.std.specs.Prelude.{◌≡◌, IfOk, fold};
 ghost use Rattle.serde_json.specs.View.{view, members_view};
 ghost use Rattle.ps_json.specs.Fields.{is_one_of};
-ghost use Rattle.ps_json.specs.Tables.{fields_of, is_unknown, least, lesser, subscription_fields, unknown_paths};
+ghost use Rattle.ps_json.specs.Tables.{fields_of, is_unknown, least, lesser, unknown_paths};
 
 use crate::paths::{Place, path_in};
 use ps_base::{OutOfMemory, Text};
@@ -12,7 +12,6 @@ use std::alloc::Global;
 /// An object whose fields are listed.
 #[derive(Clone, Copy)]
 pub enum Table {
-    Subscription,
     Publish,
     Message,
     Pull,
@@ -25,7 +24,6 @@ impl Table {
         ensures { result ≡ is_one_of (fields_of self) name.now }
     {
         match self {
-            Table::Subscription => is_field_of_subscription(name),
             Table::Publish => name == "messages",
             Table::Message => matches!(
                 name,
@@ -35,35 +33,6 @@ impl Table {
             Table::Acknowledge => name == "ackIds",
         }
     }
-}
-
-fn is_field_of_subscription(name: &str) -> bool
-    ensures { result ≡ is_one_of subscription_fields name.now }
-{
-    matches!(
-        name,
-        "name"
-            | "topic"
-            | "ackDeadlineSeconds"
-            | "retainAckedMessages"
-            | "messageRetentionDuration"
-            | "labels"
-            | "enableMessageOrdering"
-            | "expirationPolicy"
-            | "filter"
-            | "deadLetterPolicy"
-            | "retryPolicy"
-            | "enableExactlyOnceDelivery"
-            | "pushConfig"
-            | "detached"
-            | "topicMessageRetentionDuration"
-            | "state"
-            | "analyticsHubSubscriptionInfo"
-            | "bigqueryConfig"
-            | "cloudStorageConfig"
-            | "messageTransforms"
-            | "tags"
-    )
 }
 
 /// The least path in byte order of the fields of a body that its table doesn't list. Fails only if out of memory.
@@ -105,7 +74,7 @@ fn is_unknown(table: Table, name: &str, value: &Value) -> bool
 }
 
 /// The lesser of two paths in byte order, if there are two.
-fn lesser(least: Option<Text>, path: Text) -> Text
+pub fn lesser(least: Option<Text>, path: Text) -> Text
     ensures { Some result ≡ lesser least path }
 {
     match least {

@@ -1,33 +1,27 @@
-// What a verb, a path and a body ask.
+// What a verb, a target and a body ask.
 ghost use Rattle.serde_json.specs.View.{view};
 ghost use Rattle.ps_json.specs.Checks.{Reads};
-ghost use Rattle.ps_rest.specs.Calls.{asked_by, asked_at};
+ghost use Rattle.ps_rest.specs.Calls.{asked_by};
 
-use crate::route::{Route, route_of};
-use ps_json::{ReadError, command, unbuilt};
+use crate::query::read_query;
+use crate::route::route_of;
+use crate::target::{path_of, query_of};
+use ps_json::{ReadError, command};
 use ps_model::Command;
 use serde_json::Value;
 use std::alloc::Global;
 
-/// The command that this verb, path and body ask, or the first check that they break. A verb and a path that no call
-/// has are refused as unimplemented.
+/// The command that this verb, target and body ask, or the first check that they break. A target is a path and, behind
+/// its first `?`, a query. A path that no call has with this verb isn't found.
 pub fn command_for(
     alloc: Global,
     verb: &str,
-    path: &str,
+    target: &str,
     body: &Value,
 ) -> Result<Command, ReadError>
-    ensures { Reads result (asked_by verb.now path.now (view body.now)) }
+    ensures { Reads result (asked_by verb.now target.now (view body.now)) }
 {
-    let route = route_of(alloc, verb, path)?;
-    command_at(alloc, route, body)
-}
-
-fn command_at(alloc: Global, route: Option<Route>, body: &Value) -> Result<Command, ReadError>
-    ensures { Reads result (asked_at route (view body.now)) }
-{
-    match route {
-        Some(route) => command(alloc, route.call, route.name.as_str(), body),
-        None => Err(unbuilt(alloc)?),
-    }
+    let route = route_of(alloc, verb, path_of(target))?;
+    let query = read_query(alloc, query_of(target))?;
+    command(alloc, route.call, &route.path, &query, body)
 }

@@ -1,8 +1,9 @@
-//! Calls by verb and path.
+//! Calls by verb and target.
 #![tactic(auto)]
 
 mod call;
+mod query;
 mod route;
+mod target;
 
 pub use call::command_for;
-pub use route::{Route, route_of};

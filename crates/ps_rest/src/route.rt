@@ -1,23 +1,26 @@
 // Which call a line's verb and path name.
-ghost use Rattle.std.specs.Prelude.{◌≡◌, Some, IfOk, map};
-ghost use Rattle.std.specs.List.{list_all};
+ghost use Rattle.std.specs.Prelude.{◌≡◌, Some, IfOk};
+ghost use Rattle.ps_base.specs.declared.refusal.Refusal.TheVariants.{NotFound};
+ghost use Rattle.ps_json.specs.Checks.{Reads};
+ghost use Rattle.ps_json.specs.declared.read_error.ReadError.TheVariants as error;
 ghost use Rattle.ps_rest.specs.Routes as spec;
 
-use ps_base::{OutOfMemory, Text};
-use ps_json::CallKind;
+use crate::target::decoded;
+use ps_base::{Duplicate, List, OutOfMemory, Reason, Refusal, Text};
+use ps_json::{CallKind, PathNames, ReadError};
 use ps_names::parts_of;
 use std::alloc::Global;
 
-/// A call, and the name of the resource that it is made on: the project, for the list of a whole collection.
+/// A call, and the names in its path.
 #[derive(Drop)]
 pub struct Route {
     pub call: CallKind,
-    pub name: Text,
+    pub path: PathNames,
 }
 
 /// What a path names in a collection of a project.
 #[derive(Clone, Copy)]
-enum Target<'a> {
+enum Subject<'a> {
     /// The whole collection.
     Collection,
     /// A resource.
@@ -28,75 +31,91 @@ enum Target<'a> {
     Sublist(&'a str),
 }
 
-/// The call of this verb and path. None if no call has them.
-pub fn route_of(alloc: Global, verb: &str, path: &str) -> Result<Option<Route>, OutOfMemory>
-    ensures { IfOk result (λ route. route ≡ spec.route_of verb.now path.now) }
+/// The call of this verb and path. A part of the path that isn't UTF-8 once it is decoded is refused, and a path that no
+/// call has with this verb isn't found.
+pub fn route_of(alloc: Global, verb: &str, path: &str) -> Result<Route, ReadError>
+    ensures { Reads result (spec.route_of verb.now path.now) }
 {
-    if !is_plain(path) {
-        return Ok(None);
-    }
     let Some(rest) = path.strip_prefix("/v1/") else {
-        return Ok(None);
+        return Err(no_route(alloc, path)?);
     };
-    let parts = parts_of(alloc, rest)?;
-    route_at(alloc, verb, parts.as_slice())
+    match decoded_parts(alloc, rest)? {
+        Some(parts) => known_route(alloc, verb, path, parts.as_slice()),
+        None => Err(ReadError::Refused(Refusal::InvalidArgument(Reason::Path))),
+    }
 }
 
-fn is_plain(path: &str) -> bool
-    ensures { result ≡ list_all spec.is_plain_byte path.now }
+fn decoded_parts(alloc: Global, rest: &str) -> Result<Option<List<Text>>, OutOfMemory>
+    ensures { IfOk result (λ parts. parts ≡ spec.parts_in rest.now) }
 {
-    path.as_bytes().iter().all(|b| *b != b'%' && *b != b'?')
+    let parts = parts_of(alloc, rest)?;
+    decoded(alloc, parts.as_slice())
 }
 
-fn route_at(alloc: Global, verb: &str, parts: &[&str]) -> Result<Option<Route>, OutOfMemory>
-    ensures { IfOk result (λ route. route ≡ spec.route_at verb.now (map (λ part. part.now) parts.now)) }
+/// The route to what these parts name. The path is told if there is none.
+fn known_route(alloc: Global, verb: &str, path: &str, parts: &[Text]) -> Result<Route, ReadError>
+    ensures { Reads result (spec.known_route path.now (spec.route_at verb.now parts.now)) }
+{
+    match route_at(alloc, verb, parts)? {
+        Some(route) => Ok(route),
+        None => Err(no_route(alloc, path)?),
+    }
+}
+
+/// The error of a path that no call has with its verb. Fails only if out of memory.
+fn no_route(alloc: Global, path: &str) -> Result<ReadError, OutOfMemory>
+    ensures { IfOk result (λ e. e ≡ error.Refused (NotFound path.now)) }
+{
+    let path = Text::from_str(alloc, path)?;
+    Ok(ReadError::Refused(Refusal::NotFound(path)))
+}
+
+fn route_at(alloc: Global, verb: &str, parts: &[Text]) -> Result<Option<Route>, OutOfMemory>
+    ensures { IfOk result (λ route. route ≡ spec.route_at verb.now parts.now) }
 {
     match parts {
-        [projects, rest @ ..] if *projects == "projects" => route_in(alloc, verb, rest),
+        [projects, rest @ ..] if projects.as_str() == "projects" => route_in(alloc, verb, rest),
         _ => Ok(None),
     }
 }
 
 /// The route to what these parts name, which stand behind `projects`.
-fn route_in(alloc: Global, verb: &str, parts: &[&str]) -> Result<Option<Route>, OutOfMemory>
-    ensures { IfOk result (λ route. route ≡ spec.route_in verb.now (map (λ part. part.now) parts.now)) }
+fn route_in(alloc: Global, verb: &str, parts: &[Text]) -> Result<Option<Route>, OutOfMemory>
+    ensures { IfOk result (λ route. route ≡ spec.route_in verb.now parts.now) }
 {
     match parts {
-        [project, collection] => match call_of(verb, collection, Target::Collection) {
-            Some(call) => to_project(alloc, call, project),
-            None => Ok(None),
-        },
-        [project, collection, last] => match call_of(verb, collection, target_of(last)) {
-            Some(call) => to_resource(alloc, call, project, collection, id_of(last)),
-            None => Ok(None),
-        },
-        [project, collection, id, list] => match call_of(verb, collection, Target::Sublist(list)) {
-            Some(call) => to_resource(alloc, call, project, collection, id),
-            None => Ok(None),
-        },
+        [project, collection] => {
+            let call = call_of(verb, collection.as_str(), Subject::Collection);
+            route_to(alloc, call, project, "")
+        }
+        [project, collection, last] => {
+            let last = last.as_str();
+            let call = call_of(verb, collection.as_str(), subject_of(last));
+            route_to(alloc, call, project, id_of(last))
+        }
+        [project, collection, id, list] => {
+            let call = call_of(verb, collection.as_str(), Subject::Sublist(list.as_str()));
+            route_to(alloc, call, project, id.as_str())
+        }
         _ => Ok(None),
     }
 }
 
-fn to_project(alloc: Global, call: CallKind, project: &str) -> Result<Option<Route>, OutOfMemory>
-    ensures { IfOk result (λ route. route ≡ Some (spec.route_to (spec.project_at project.now) call)) }
-{
-    let name = Text::from_string(format!(in alloc; "projects/{project}")?);
-    Ok(Some(Route { call, name }))
-}
-
-fn to_resource(
+fn route_to(
     alloc: Global,
-    call: CallKind,
-    project: &str,
-    collection: &str,
+    call: Option<CallKind>,
+    project: &Text,
     id: &str,
 ) -> Result<Option<Route>, OutOfMemory>
-    ensures { IfOk result (λ route. route
-        ≡ Some (spec.route_to (spec.name_at project.now collection.now id.now) call)) }
+    ensures { IfOk result (λ route. route ≡ spec.route_to project.now id.now call) }
 {
-    let name = Text::from_string(format!(in alloc; "projects/{project}/{collection}/{id}")?);
-    Ok(Some(Route { call, name }))
+    let Some(call) = call else {
+        return Ok(None);
+    };
+    let project = project.copy(alloc)?;
+    let id = Text::from_str(alloc, id)?;
+    let path = PathNames { project, id };
+    Ok(Some(Route { call, path }))
 }
 
 /// What stands before the first `:` of a path's last part.
@@ -110,44 +129,44 @@ fn id_of(last: &str) -> &str
 }
 
 /// A resource with the custom verb behind the first `:`, if there is one.
-fn target_of(last: &str) -> Target<'_>
-    ensures { spec.target_in result ≡ spec.target_of last.now }
+fn subject_of(last: &str) -> Subject<'_>
+    ensures { spec.subject_in result ≡ spec.subject_of last.now }
 {
     match last.split_once(':') {
-        Some((_, verb)) => Target::Custom(verb),
-        None => Target::Resource,
+        Some((_, verb)) => Subject::Custom(verb),
+        None => Subject::Resource,
     }
 }
 
-/// The call of this verb on a target in this collection. Each call is a row here.
-fn call_of(verb: &str, collection: &str, target: Target<'_>) -> Option<CallKind>
-    ensures { result ≡ spec.call_of verb.now collection.now (spec.target_in target.entry) }
+/// The call of this verb on a subject in this collection. Each call is a row here.
+fn call_of(verb: &str, collection: &str, subject: Subject<'_>) -> Option<CallKind>
+    ensures { result ≡ spec.call_of verb.now collection.now (spec.subject_in subject.entry) }
 {
-    let call = match (verb, collection, target) {
-        ("PUT", "topics", Target::Resource) => CallKind::CreateTopic,
-        ("PATCH", "topics", Target::Resource) => CallKind::UpdateTopic,
-        ("GET", "topics", Target::Resource) => CallKind::GetTopic,
-        ("DELETE", "topics", Target::Resource) => CallKind::DeleteTopic,
-        ("GET", "topics", Target::Collection) => CallKind::ListTopics,
-        ("GET", "topics", Target::Sublist("subscriptions")) => CallKind::ListTopicSubscriptions,
-        ("GET", "topics", Target::Sublist("snapshots")) => CallKind::ListTopicSnapshots,
-        ("POST", "topics", Target::Custom("publish")) => CallKind::Publish,
-        ("PUT", "subscriptions", Target::Resource) => CallKind::CreateSubscription,
-        ("PATCH", "subscriptions", Target::Resource) => CallKind::UpdateSubscription,
-        ("GET", "subscriptions", Target::Resource) => CallKind::GetSubscription,
-        ("DELETE", "subscriptions", Target::Resource) => CallKind::DeleteSubscription,
-        ("GET", "subscriptions", Target::Collection) => CallKind::ListSubscriptions,
-        ("POST", "subscriptions", Target::Custom("pull")) => CallKind::Pull,
-        ("POST", "subscriptions", Target::Custom("acknowledge")) => CallKind::Acknowledge,
-        ("POST", "subscriptions", Target::Custom("modifyAckDeadline")) =>
+    let call = match (verb, collection, subject) {
+        ("PUT", "topics", Subject::Resource) => CallKind::CreateTopic,
+        ("PATCH", "topics", Subject::Resource) => CallKind::UpdateTopic,
+        ("GET", "topics", Subject::Resource) => CallKind::GetTopic,
+        ("DELETE", "topics", Subject::Resource) => CallKind::DeleteTopic,
+        ("GET", "topics", Subject::Collection) => CallKind::ListTopics,
+        ("GET", "topics", Subject::Sublist("subscriptions")) => CallKind::ListTopicSubscriptions,
+        ("GET", "topics", Subject::Sublist("snapshots")) => CallKind::ListTopicSnapshots,
+        ("POST", "topics", Subject::Custom("publish")) => CallKind::Publish,
+        ("PUT", "subscriptions", Subject::Resource) => CallKind::CreateSubscription,
+        ("PATCH", "subscriptions", Subject::Resource) => CallKind::UpdateSubscription,
+        ("GET", "subscriptions", Subject::Resource) => CallKind::GetSubscription,
+        ("DELETE", "subscriptions", Subject::Resource) => CallKind::DeleteSubscription,
+        ("GET", "subscriptions", Subject::Collection) => CallKind::ListSubscriptions,
+        ("POST", "subscriptions", Subject::Custom("pull")) => CallKind::Pull,
+        ("POST", "subscriptions", Subject::Custom("acknowledge")) => CallKind::Acknowledge,
+        ("POST", "subscriptions", Subject::Custom("modifyAckDeadline")) =>
             CallKind::ModifyAckDeadline,
-        ("POST", "subscriptions", Target::Custom("seek")) => CallKind::Seek,
-        ("POST", "subscriptions", Target::Custom("detach")) => CallKind::Detach,
-        ("PUT", "snapshots", Target::Resource) => CallKind::CreateSnapshot,
-        ("PATCH", "snapshots", Target::Resource) => CallKind::UpdateSnapshot,
-        ("GET", "snapshots", Target::Resource) => CallKind::GetSnapshot,
-        ("DELETE", "snapshots", Target::Resource) => CallKind::DeleteSnapshot,
-        ("GET", "snapshots", Target::Collection) => CallKind::ListSnapshots,
+        ("POST", "subscriptions", Subject::Custom("seek")) => CallKind::Seek,
+        ("POST", "subscriptions", Subject::Custom("detach")) => CallKind::Detach,
+        ("PUT", "snapshots", Subject::Resource) => CallKind::CreateSnapshot,
+        ("PATCH", "snapshots", Subject::Resource) => CallKind::UpdateSnapshot,
+        ("GET", "snapshots", Subject::Resource) => CallKind::GetSnapshot,
+        ("DELETE", "snapshots", Subject::Resource) => CallKind::DeleteSnapshot,
+        ("GET", "snapshots", Subject::Collection) => CallKind::ListSnapshots,
         _ => return None,
     };
     Some(call)

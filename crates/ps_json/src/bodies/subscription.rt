@@ -1,15 +1,20 @@
-// The creation of a subscription.
-ghost use Rattle.std.specs.Prelude.{◌≡◌};
+// Calls on a subscription that read or change its settings.
 ghost use Rattle.serde_json.specs.View.{members_view};
-ghost use Rattle.ps_json.specs.Checks.{Reads, checked};
-ghost use Rattle.ps_json.specs.Creations.{subscription_checks, subscription_command};
+ghost use Rattle.ps_names.specs.Names.{is_sub_name};
+ghost use Rattle.ps_json.specs.Checks.{Reads, name_read};
+ghost use Rattle.ps_json.specs.Creations.{create_subscription, topic_read};
+ghost use Rattle.ps_json.specs.Updates.{update_subscription};
 
-use crate::bodies::topic::names_another;
+use crate::bodies::resource::{
+    check_built, check_fields, check_name, mask_in, read_mask, resource_in,
+};
 use crate::kinds::text;
-use crate::read_error::{ReadError, refused, shape};
-use crate::tables::{Table, least_unknown};
+use crate::masks::names_in;
+use crate::read_error::{ReadError, refused};
+use crate::rows::Object;
+use crate::settings::{changed_subscription, new_subscription};
 use ps_base::Reason;
-use ps_model::{Command, SubConfig};
+use ps_model::Command;
 use ps_names::{SubName, TopicName};
 use serde_json::{Map, Value};
 use std::alloc::Global;
@@ -20,31 +25,67 @@ pub fn create_subscription(
     name: &str,
     fields: &Map<String, Value>,
 ) -> Result<Command, ReadError>
-    ensures { Reads result
-        (checked (subscription_checks name.now (members_view fields.now.entries))
-        (subscription_command name.now (members_view fields.now.entries))) }
+    ensures { Reads result (create_subscription name.now (members_view fields.now.entries)) }
 {
-    let Some(subscription) = SubName::read(alloc, name)? else {
-        return Err(refused(Reason::Name));
-    };
-    if text(fields, "name").is_none() {
-        return Err(shape(alloc, "name")?);
-    }
-    let Some(topic) = text(fields, "topic") else {
-        return Err(shape(alloc, "topic")?);
-    };
-    if let Some(path) = least_unknown(alloc, Table::Subscription, fields)? {
-        return Err(refused(Reason::UnknownField(path)));
-    }
-    if names_another(fields, name) {
-        return Err(refused(Reason::Name));
-    }
-    let Some(topic) = TopicName::read(alloc, topic)? else {
-        return Err(refused(Reason::Topic));
-    };
+    check_built(alloc, Object::Subscription, "", fields, &[])?;
+    let subscription = subscription_at(alloc, name)?;
+    check_fields(alloc, Object::Subscription, fields)?;
+    check_name(fields, name)?;
+    let topic = topic_of(alloc, fields)?;
+    let config = new_subscription(alloc, fields)?;
     Ok(Command::CreateSubscription {
         subscription,
         topic,
-        config: SubConfig::new(alloc),
+        config,
     })
+}
+
+/// The command that updates the subscription of this name, or the first check that is broken.
+pub fn update_subscription(
+    alloc: Global,
+    name: &str,
+    fields: &Map<String, Value>,
+) -> Result<Command, ReadError>
+    ensures { Reads result (update_subscription name.now (members_view fields.now.entries)) }
+{
+    let empty = Map::new(alloc);
+    let settings = resource_in(fields, "subscription", &empty);
+    let names = names_in(alloc, mask_in(fields))?;
+    check_built(
+        alloc,
+        Object::Subscription,
+        "subscription.",
+        settings,
+        names.as_slice(),
+    )?;
+    let subscription = subscription_at(alloc, name)?;
+    check_fields(alloc, Object::SubscriptionUpdate, fields)?;
+    check_name(settings, name)?;
+    let mask = read_mask(Object::Subscription, names.as_slice())?;
+    let config = changed_subscription(alloc, settings, mask)?;
+    Ok(Command::UpdateSubscription {
+        subscription,
+        mask,
+        config,
+    })
+}
+
+/// The subscription of this name.
+pub fn subscription_at(alloc: Global, name: &str) -> Result<SubName, ReadError>
+    ensures { Reads result (name_read (is_sub_name name.now) name.now) }
+{
+    match SubName::read(alloc, name)? {
+        Some(subscription) => Ok(subscription),
+        None => Err(refused(Reason::Name)),
+    }
+}
+
+/// The topic that a new subscription is attached to.
+fn topic_of(alloc: Global, fields: &Map<String, Value>) -> Result<TopicName, ReadError>
+    ensures { Reads result (topic_read (members_view fields.now.entries)) }
+{
+    match TopicName::read(alloc, text(fields, "topic").unwrap_or(""))? {
+        Some(topic) => Ok(topic),
+        None => Err(refused(Reason::Topic)),
+    }
 }

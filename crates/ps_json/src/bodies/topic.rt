@@ -1,15 +1,19 @@
-// The creation of a topic.
-ghost use Rattle.std.specs.Prelude.{◌≡◌, codes};
-ghost use Rattle.serde_json.specs.Find.{get_member};
+// Calls on a topic.
 ghost use Rattle.serde_json.specs.View.{members_view};
-ghost use Rattle.ps_json.specs.Checks.{Reads, checked};
-ghost use Rattle.ps_json.specs.Creations.{is_another, topic_checks, topic_command};
+ghost use Rattle.ps_names.specs.Names.{is_topic_name};
+ghost use Rattle.ps_json.specs.Checks.{Reads, name_read};
+ghost use Rattle.ps_json.specs.Creations.{create_topic};
+ghost use Rattle.ps_json.specs.Updates.{update_topic};
 
-use crate::fields::field;
-use crate::kinds::text;
-use crate::read_error::{ReadError, refused, shape};
+use crate::bodies::resource::{
+    check_built, check_fields, check_name, mask_in, read_mask, resource_in,
+};
+use crate::masks::names_in;
+use crate::read_error::{ReadError, refused};
+use crate::rows::Object;
+use crate::settings::{changed_topic, new_topic};
 use ps_base::Reason;
-use ps_model::{Command, TopicConfig};
+use ps_model::Command;
 use ps_names::TopicName;
 use serde_json::{Map, Value};
 use std::alloc::Global;
@@ -20,31 +24,46 @@ pub fn create_topic(
     name: &str,
     fields: &Map<String, Value>,
 ) -> Result<Command, ReadError>
-    ensures { Reads result
-        (checked (topic_checks name.now (members_view fields.now.entries)) (topic_command name.now)) }
+    ensures { Reads result (create_topic name.now (members_view fields.now.entries)) }
 {
-    let Some(topic) = TopicName::read(alloc, name)? else {
-        return Err(refused(Reason::Name));
-    };
-    if text(fields, "name").is_none() {
-        return Err(shape(alloc, "name")?);
-    }
-    if names_another(fields, name) {
-        return Err(refused(Reason::Name));
-    }
-    Ok(Command::CreateTopic {
+    check_built(alloc, Object::Topic, "", fields, &[])?;
+    let topic = topic_at(alloc, name)?;
+    check_fields(alloc, Object::Topic, fields)?;
+    check_name(fields, name)?;
+    let config = new_topic(alloc, fields)?;
+    Ok(Command::CreateTopic { topic, config })
+}
+
+/// The command that updates the topic of this name, or the first check that is broken.
+pub fn update_topic(
+    alloc: Global,
+    name: &str,
+    fields: &Map<String, Value>,
+) -> Result<Command, ReadError>
+    ensures { Reads result (update_topic name.now (members_view fields.now.entries)) }
+{
+    let empty = Map::new(alloc);
+    let settings = resource_in(fields, "topic", &empty);
+    let names = names_in(alloc, mask_in(fields))?;
+    check_built(alloc, Object::Topic, "topic.", settings, names.as_slice())?;
+    let topic = topic_at(alloc, name)?;
+    check_fields(alloc, Object::TopicUpdate, fields)?;
+    check_name(settings, name)?;
+    let mask = read_mask(Object::Topic, names.as_slice())?;
+    let config = changed_topic(alloc, settings, mask)?;
+    Ok(Command::UpdateTopic {
         topic,
-        config: TopicConfig::new(alloc),
+        mask,
+        config,
     })
 }
 
-/// Whether the body's name is there and isn't the path's.
-pub fn names_another(fields: &Map<String, Value>, name: &str) -> bool
-    ensures { result ≡ is_another name.now
-        (get_member (codes "name") (members_view fields.now.entries)) }
+/// The topic of this name.
+pub fn topic_at(alloc: Global, name: &str) -> Result<TopicName, ReadError>
+    ensures { Reads result (name_read (is_topic_name name.now) name.now) }
 {
-    match field(fields, "name") {
-        Some(Value::String(text)) => text.as_str() != name,
-        _ => false,
+    match TopicName::read(alloc, name)? {
+        Some(topic) => Ok(topic),
+        None => Err(refused(Reason::Name)),
     }
 }

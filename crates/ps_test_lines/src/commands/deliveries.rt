@@ -14,8 +14,8 @@ const PULLS: &str = r#"
 > Pull projects/p/subscriptions/sub {"maxMessages":1001}
 > Pull projects/p/subscriptions/sub {"maxMessages":9223372036854775807}
 < projects/p/subscriptions/sub 1000 10000000 None
-> Pull projects/p/topics/x {"maxMessages":"x"}
-> Pull projects/p/topics/abc {"maxMessages":1}
+> Pull projects/p/subscriptions/x {"maxMessages":"x"}
+> Pull projects//subscriptions/sub {"maxMessages":1}
 < 400 name
 > Pull projects/p/subscriptions/sub {"maxMessages":[],"returnImmediately":7}
 < 400 shape: maxMessages
@@ -82,17 +82,17 @@ const ACKNOWLEDGEMENTS: &str = r#"
 
 /// The name is looked at before the ids.
 const ACKNOWLEDGEMENTS_OF_NO_SUBSCRIPTION: &str = r#"
-> Acknowledge projects/p/topics/abc {"ackIds":["AAAAAAAAAAEAAAAAAAAAAwAAAAAAAAAC","AAAAAAAAAAEAAAAAAAAAAQAAAAAAAAAB","AAAAAAAAAAEAAAAAAAAAAwAAAAAAAAAC"]}
-> Acknowledge projects/p/topics/abc {"ackIds":"AAAAAAAAAAEAAAAAAAAAAQAAAAAAAAAB"}
-> Acknowledge projects/p/topics/abc {"ackIds":["x",null,7],"other":1}
-> Acknowledge projects/p/topics/abc {"ackIds":[],"other":1,"more":0}
-> Acknowledge projects/p/topics/abc {"ackIds":[]}
-> Acknowledge projects/p/topics/abc {"ackIds":null}
-> Acknowledge projects/p/topics/abc {}
-> Acknowledge projects/p/topics/abc {"ackIds":["AAAAAAAAAAEAAAAAAAAAAQAAAAAAAAAB",""]}
-> Acknowledge projects/p/topics/abc {"ackIds":["AAAAAAAAAAEAAAAAAAAAAQAAAAAAAA-_"]}
-> Acknowledge projects/p/topics/abc {"ackIds":["AAAAAAAAAAEAAAAAAAAAAQAAAAAAAA=="]}
-> Acknowledge projects/p/topics/abc {"ackIds":["AAAAAAAAAAEAAAAAAAAAAQAAAAAAAAABAAAA"]}
+> Acknowledge projects/p/subscriptions/ab {"ackIds":["AAAAAAAAAAEAAAAAAAAAAwAAAAAAAAAC","AAAAAAAAAAEAAAAAAAAAAQAAAAAAAAAB","AAAAAAAAAAEAAAAAAAAAAwAAAAAAAAAC"]}
+> Acknowledge projects/p/subscriptions/ab {"ackIds":"AAAAAAAAAAEAAAAAAAAAAQAAAAAAAAAB"}
+> Acknowledge projects/p/subscriptions/ab {"ackIds":["x",null,7],"other":1}
+> Acknowledge projects/p/subscriptions/ab {"ackIds":[],"other":1,"more":0}
+> Acknowledge projects/p/subscriptions/ab {"ackIds":[]}
+> Acknowledge projects/p/subscriptions/ab {"ackIds":null}
+> Acknowledge projects/p/subscriptions/ab {}
+> Acknowledge projects/p/subscriptions/ab {"ackIds":["AAAAAAAAAAEAAAAAAAAAAQAAAAAAAAAB",""]}
+> Acknowledge projects/p/subscriptions/ab {"ackIds":["AAAAAAAAAAEAAAAAAAAAAQAAAAAAAA-_"]}
+> Acknowledge projects/p/subscriptions/ab {"ackIds":["AAAAAAAAAAEAAAAAAAAAAQAAAAAAAA=="]}
+> Acknowledge projects/p/subscriptions/ab {"ackIds":["AAAAAAAAAAEAAAAAAAAAAQAAAAAAAAABAAAA"]}
 < 400 name
 "#;
 

@@ -36,21 +36,21 @@ const MESSAGES: &str = r#"
 
 /// The name is looked at before the messages.
 const MESSAGES_TO_NO_TOPIC: &str = r#"
-> Publish projects/p/subscriptions/sub {"messages":[{"data":"aGk=","attributes":{"b":"1","a":""},"orderingKey":"k"},{"data":"aGk"}]}
-> Publish projects/p/subscriptions/sub {"messages":[{"data":null,"attributes":{"a":"1","a":"2"},"orderingKey":null,"messageId":7,"publishTime":{}}]}
-> Publish projects/p/subscriptions/sub {"messages":[{"orderingKey":"k"},{"data":"aGk="}]}
-> Publish projects/p/subscriptions/sub {"messages":[{"data":"aGk=","x":null},{"attributes":{"":"1"}}]}
-> Publish projects/p/subscriptions/sub {"messages":[]}
-> Publish projects/p/subscriptions/sub {"messages":null}
-> Publish projects/p/subscriptions/sub {"messages":{}}
-> Publish projects/p/subscriptions/sub {"messages":[{"x":1},null,7]}
-> Publish projects/p/subscriptions/sub {"messages":[{},{"orderingKey":7,"data":7}]}
-> Publish projects/p/subscriptions/sub {"messages":[{"attributes":{"a":7}}]}
-> Publish projects/p/subscriptions/sub {"messages":[{"attributes":{"a":null},"orderingKey":7}]}
-> Publish projects/p/subscriptions/sub {"messages":[{"attributes":[],"orderingKey":7}]}
-> Publish projects/p/subscriptions/sub {"messages":[{"orderingKey":7}]}
-> Publish projects/p/subscriptions/sub {"messages":[{},{},{"x":""},{},{},{},{},{},{},{},{"x":1}]}
-> Publish projects/p/subscriptions/sub {"messages":[{"z":0,"y":0},{"x":0}]}
+> Publish projects/p/topics/ab {"messages":[{"data":"aGk=","attributes":{"b":"1","a":""},"orderingKey":"k"},{"data":"aGk"}]}
+> Publish projects/p/topics/ab {"messages":[{"data":null,"attributes":{"a":"1","a":"2"},"orderingKey":null,"messageId":7,"publishTime":{}}]}
+> Publish projects/p/topics/ab {"messages":[{"orderingKey":"k"},{"data":"aGk="}]}
+> Publish projects/p/topics/ab {"messages":[{"data":"aGk=","x":null},{"attributes":{"":"1"}}]}
+> Publish projects/p/topics/ab {"messages":[]}
+> Publish projects/p/topics/ab {"messages":null}
+> Publish projects/p/topics/ab {"messages":{}}
+> Publish projects/p/topics/ab {"messages":[{"x":1},null,7]}
+> Publish projects/p/topics/ab {"messages":[{},{"orderingKey":7,"data":7}]}
+> Publish projects/p/topics/ab {"messages":[{"attributes":{"a":7}}]}
+> Publish projects/p/topics/ab {"messages":[{"attributes":{"a":null},"orderingKey":7}]}
+> Publish projects/p/topics/ab {"messages":[{"attributes":[],"orderingKey":7}]}
+> Publish projects/p/topics/ab {"messages":[{"orderingKey":7}]}
+> Publish projects/p/topics/ab {"messages":[{},{},{"x":""},{},{},{},{},{},{},{},{"x":1}]}
+> Publish projects/p/topics/ab {"messages":[{"z":0,"y":0},{"x":0}]}
 < 400 name
 "#;
 

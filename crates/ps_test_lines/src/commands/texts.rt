@@ -3,7 +3,7 @@
 use ps_base::{AckId, Labels, OutOfMemory};
 use ps_json::ReadError;
 use ps_message::Message;
-use ps_model::{Command, SubConfig, TopicConfig};
+use ps_model::{Command, Paging, SubConfig, TopicConfig};
 use ps_names::{SubName, TopicName};
 use std::alloc::Global;
 
@@ -41,29 +41,60 @@ fn text_of_ids(alloc: Global, ids: &[AckId]) -> Result<String, OutOfMemory> {
     Ok(text)
 }
 
-fn text_of_topic(
+fn text_of_topic_settings(alloc: Global, config: &TopicConfig) -> Result<String, OutOfMemory> {
+    let labels = text_of_labels(alloc, &config.labels)?;
+    Ok(format!(in alloc; "{labels} {:?}", config.retention)?)
+}
+
+/// The seconds of a lease, the retention, the expiration, the labels and the filter.
+fn text_of_subscription_settings(alloc: Global, config: &SubConfig) -> Result<String, OutOfMemory> {
+    let labels = text_of_labels(alloc, &config.labels)?;
+    Ok(format!(in alloc;
+        "{} {} {:?} {labels} \"{}\"",
+        config.ack_seconds,
+        config.retention,
+        config.expiration,
+        config.filter.as_str()
+    )?)
+}
+
+fn text_of_new_topic(
     alloc: Global,
     topic: &TopicName,
     config: &TopicConfig,
 ) -> Result<String, OutOfMemory> {
-    let labels = text_of_labels(alloc, &config.labels)?;
-    Ok(format!(in alloc; "{} {labels} {:?}", topic.text(), config.retention)?)
+    let settings = text_of_topic_settings(alloc, config)?;
+    Ok(format!(in alloc; "{} {settings}", topic.text())?)
 }
 
-fn text_of_subscription(
+fn text_of_changed_topic(
+    alloc: Global,
+    topic: &TopicName,
+    mask: u32,
+    config: &TopicConfig,
+) -> Result<String, OutOfMemory> {
+    let settings = text_of_topic_settings(alloc, config)?;
+    Ok(format!(in alloc; "{} mask {mask} {settings}", topic.text())?)
+}
+
+fn text_of_new_subscription(
     alloc: Global,
     subscription: &SubName,
     topic: &TopicName,
     config: &SubConfig,
 ) -> Result<String, OutOfMemory> {
-    Ok(format!(in alloc;
-        "{} {} {} {} {:?}",
-        subscription.text(),
-        topic.text(),
-        config.ack_seconds,
-        config.retention,
-        config.expiration
-    )?)
+    let settings = text_of_subscription_settings(alloc, config)?;
+    Ok(format!(in alloc; "{} {} {settings}", subscription.text(), topic.text())?)
+}
+
+fn text_of_changed_subscription(
+    alloc: Global,
+    subscription: &SubName,
+    mask: u32,
+    config: &SubConfig,
+) -> Result<String, OutOfMemory> {
+    let settings = text_of_subscription_settings(alloc, config)?;
+    Ok(format!(in alloc; "{} mask {mask} {settings}", subscription.text())?)
 }
 
 fn text_of_publish(
@@ -94,14 +125,60 @@ fn text_of_acknowledge(
     Ok(format!(in alloc; "{}{ids}", subscription.text())?)
 }
 
+fn text_of_list(
+    alloc: Global,
+    call: &str,
+    name: &str,
+    paging: &Paging,
+) -> Result<String, OutOfMemory> {
+    Ok(format!(in alloc; "{call} {name} {} \"{}\"", paging.size, paging.after)?)
+}
+
+/// A call that asks no more than a name, or a part of a list.
+fn text_of_named(alloc: Global, command: &Command) -> Result<String, OutOfMemory> {
+    match command {
+        Command::GetTopic { topic } => Ok(format!(in alloc; "GetTopic {}", topic.text())?),
+        Command::DeleteTopic { topic } => Ok(format!(in alloc; "DeleteTopic {}", topic.text())?),
+        Command::GetSubscription { subscription } => {
+            Ok(format!(in alloc; "GetSubscription {}", subscription.text())?)
+        }
+        Command::DeleteSubscription { subscription } => {
+            Ok(format!(in alloc; "DeleteSubscription {}", subscription.text())?)
+        }
+        Command::Detach { subscription } => {
+            Ok(format!(in alloc; "Detach {}", subscription.text())?)
+        }
+        Command::ListTopics { project, paging } => {
+            text_of_list(alloc, "ListTopics", project.text(), paging)
+        }
+        Command::ListSubscriptions { project, paging } => {
+            text_of_list(alloc, "ListSubscriptions", project.text(), paging)
+        }
+        Command::ListTopicSubscriptions { topic, paging } => {
+            text_of_list(alloc, "ListTopicSubscriptions", topic.text(), paging)
+        }
+        _ => Ok(String::from_str(alloc, "another")?),
+    }
+}
+
 fn text_of_command(alloc: Global, command: &Command) -> Result<String, OutOfMemory> {
     match command {
-        Command::CreateTopic { topic, config } => text_of_topic(alloc, topic, config),
+        Command::CreateTopic { topic, config } => text_of_new_topic(alloc, topic, config),
+        Command::UpdateTopic {
+            topic,
+            mask,
+            config,
+        } => text_of_changed_topic(alloc, topic, mask.0, config),
         Command::CreateSubscription {
             subscription,
             topic,
             config,
-        } => text_of_subscription(alloc, subscription, topic, config),
+        } => text_of_new_subscription(alloc, subscription, topic, config),
+        Command::UpdateSubscription {
+            subscription,
+            mask,
+            config,
+        } => text_of_changed_subscription(alloc, subscription, mask.0, config),
         Command::Publish { topic, messages } => text_of_publish(alloc, topic, messages.as_slice()),
         Command::Pull {
             subscription,
@@ -114,7 +191,7 @@ fn text_of_command(alloc: Global, command: &Command) -> Result<String, OutOfMemo
             subscription,
             ids.as_slice(),
         ),
-        _ => Ok(String::from_str(alloc, "another")?),
+        _ => text_of_named(alloc, command),
     }
 }
 
