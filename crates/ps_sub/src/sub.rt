@@ -236,6 +236,13 @@ impl Sub {
         showing::first_deadline(self.slots.as_slice())
     }
 
+    /// The settings.
+    pub fn config(&self) -> &SubConfig
+        ensures { result.now ≡ self.now.config }
+    {
+        &self.config
+    }
+
     /// The number of the next lease.
     pub fn next_lease(&self) -> u64
         ensures { result ≡ self.now.next_lease }
