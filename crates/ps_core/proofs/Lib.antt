@@ -1,9 +1,13 @@
+pub mod checking
 pub mod marks
 pub mod carrying
 pub mod settling
 pub mod creating
+pub mod looking
 pub mod publishing
 pub mod delivering
 pub mod judging
 pub mod applying
 pub mod counting
+pub mod listing
+pub mod changing

@@ -1,6 +1,5 @@
 pub mod Settings
-pub mod Names
-pub mod Indexed
+pub mod Pushed
 pub mod Steady
 pub mod Topics
 pub mod Subscriptions

@@ -1,7 +1,7 @@
+pub mod Marked
+pub mod Written
 pub mod Seen
-pub mod Steady
 pub mod Moving
-pub mod Kept
 pub mod Pulling
 pub mod Acknowledging
 pub mod Search

@@ -1,3 +1,4 @@
+pub mod Reading
 pub mod Settled
 pub mod Changed
 pub mod Rests

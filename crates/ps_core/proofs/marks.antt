@@ -1,3 +1,4 @@
+pub mod Numbered
 pub mod Ordered
 pub mod Flat
 pub mod Entering

@@ -1,6 +1,12 @@
-pub mod Entering
-pub mod Published
 pub mod Rows
+pub mod Entering
+pub mod Numbers
+pub mod Keeping
+pub mod Holders
+pub mod Members
+pub mod Tables
+pub mod World
 pub mod Had
 pub mod Steady
 pub mod Moving
+pub mod Published

@@ -1,3 +1,4 @@
+pub mod Settings
 pub mod Passes
 pub mod Expunging
 pub mod Ending

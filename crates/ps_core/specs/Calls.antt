@@ -1,19 +1,18 @@
--- One call to the machine: what isn't built is refused, and all else is as the service's rules say.
-use Rattle.std.specs.Prelude.{◌≡◌, MatchOption, IfSome, ℕ, Bool, true, false, ◌&&◌, not, nat_eq, nat_le, Option, Some, None, List, is_none, if◌then◌else◌}
+-- One call to the machine: what isn't built is refused, and all else is as the service's rules say. A machine is at a live world, which is all that a call can see.
+use Rattle.std.specs.Prelude.{◌≡◌, MatchOption, IfSome, ℕ, Bool, true, false, ◌&&◌, not, nat_eq, Option, Some, None, List, is_none, if◌then◌else◌}
 use Rattle.ps_base.specs.declared.reason.Reason.{Reason}
 use Rattle.ps_base.specs.declared.refusal.Refusal.{Refusal}
 use Rattle.ps_base.specs.declared.refusal.Refusal.TheVariants.{Unimplemented, InvalidArgument, Exhausted}
-use Rattle.ps_config.specs.Numbers.{least_ack_seconds, most_ack_seconds}
-use Rattle.ps_message.specs.Limits.{most_messages}
 use Rattle.ps_entry.specs.Commands.{has_spelling}
 use Rattle.ps_model.specs.declared.command.Command.{Command}
-use Rattle.ps_model.specs.declared.command.Command.TheVariants.{Tick, Pull}
+use Rattle.ps_model.specs.declared.command.Command.TheVariants.{Tick}
 use Rattle.ps_model.specs.declared.command.Entry.{Entry}
 use Rattle.ps_model.specs.declared.reply.Reply.{Reply}
 use Rattle.ps_model.specs.declared.reply.Reply.TheVariants.{Refused}
 use Rattle.ps_model.specs.declared.world.World.{World}
-use Rattle.ps_model.specs.Checks.{argument_fault, as_read}
+use Rattle.ps_model.specs.Checks.{argument_fault, as_read, is_normal}
 use Rattle.ps_model.specs.Commands.{is_full}
+use Rattle.ps_model.specs.Live.{live}
 use Rattle.ps_model.specs.Same.{same_world}
 use Rattle.ps_model.specs.Step as rules
 use Rattle.ps_core.specs.Built.{unbuilt}
@@ -35,16 +34,6 @@ as_built c (Some missing) = Tick
 abbrev pub entry_of : World → ℕ → Command → Option Entry
 entry_of w now c = rules.entry_of w now (as_built c (unbuilt c))
 
--- a lease's seconds as they are recorded
-abbrev pub is_lease_normal : Option ℕ → Bool
-is_lease_normal None = true
-is_lease_normal (Some seconds) = nat_le least_ack_seconds seconds && nat_le seconds most_ack_seconds
-
--- the form in which a command is recorded
-abbrev pub is_normal : Command → Bool
-is_normal (Pull subscription most budget seconds) = nat_le most most_messages && is_lease_normal seconds
-is_normal _ = true
-
 abbrev pub is_tick : Command → Bool
 is_tick Tick = true
 is_tick _ = false
@@ -57,9 +46,9 @@ is_step w at c = if same_world (rules.settled at w) (rules.carried_out w at c) t
 abbrev pub is_accepted : World → Entry → Bool
 is_accepted w e = not (is_full w) && (nat_eq (rules.moment w e.now) e.now && (is_none (unbuilt e.command) && is_step w e.now e.command))
 
--- the world after an entry, where it is accepted
+-- the live part of the world after an entry, where it is accepted
 abbrev pub next : World → Entry → Option World
-next w e = if is_accepted w e then Some (rules.step w e) else None
+next w e = if is_accepted w e then Some (live (rules.step w e)) else None
 
 -- why a command is refused before anything is looked at: it isn't built, an argument is bad, or the record is full
 abbrev pub refusal_by : Option (List ℕ) → Option Reason → Bool → Option Refusal

@@ -1,4 +1,4 @@
--- What carrying out a command asks, and what it comes to: the rule's answer, and the rule's world with one entry more, if it changes the world at all.
+-- What carrying out a command asks, and what it comes to: the rule's answer, and the live part of the rule's world with one entry more, if it changes the world at all.
 use Rattle.std.specs.Prelude.{◌≡◌, ◌+◌, ◌<◌, ◌≤◌, ◌^◌, ℕ, Bool, true, false, not, Option, Some, None, if◌then◌else◌}
 use Rattle.ps_model.specs.declared.command.Command.{Command}
 use Rattle.ps_model.specs.declared.command.Command.TheVariants.{Tick}
@@ -6,6 +6,7 @@ use Rattle.ps_model.specs.declared.command.Entry.{Entry}
 use Rattle.ps_model.specs.declared.reply.Reply.{Reply}
 use Rattle.ps_model.specs.declared.world.World.{World}
 use Rattle.ps_model.specs.Commands.{outcome}
+use Rattle.ps_model.specs.Live.{live}
 use Rattle.ps_model.specs.Outcomes.{reply_in}
 use Rattle.ps_model.specs.Same.{same_world}
 use Rattle.ps_model.specs.Step.{finished}
@@ -27,7 +28,7 @@ one_entry_more at was w = record w { now = at; count = was.count + 1 }
 pub record IsCarried (at : ℕ) (c : Command) (old new : State) (reply : Reply) (changed : Bool) : Type 0 where
   pub told : reply ≡ reply_in (outcome (seen old) at c)
   pub moved : same_world (seen old) (left_by at c (seen old)) ≡ not changed
-  pub after : seen new ≡ (if changed then one_entry_more at (seen old) (left_by at c (seen old)) else seen old)
+  pub after : seen new ≡ (if changed then one_entry_more at (seen old) (live (left_by at c (seen old))) else seen old)
 
 -- the entry of a command that was carried out: itself if it changed the world, a Tick if settling alone did, and else none
 pub record IsEntryFor (at : ℕ) (c : Command) (moved changed : Bool) (made new : State) (entry : Option Entry) : Type 0 where

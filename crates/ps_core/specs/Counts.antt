@@ -3,6 +3,7 @@ use Rattle.std.specs.Prelude.{◌≡◌, ◌+◌, ℕ, Bool, true, false, Option
 use Rattle.std.proofs.Common.{sym, ap}
 use Rattle.ps_model.specs.declared.command.Entry.{Entry}
 use Rattle.ps_model.specs.declared.world.World.{World}
+use Rattle.ps_model.specs.Live.{live}
 use Rattle.ps_model.specs.Step.{step}
 use Rattle.ps_core.specs.Calls.{is_accepted, next}
 
@@ -18,6 +19,6 @@ counted w (Some v) = v.count
 pub counts_entries : CountsEntries
 counts_entries w e v goes = by (is_accepted w e) goes
   where
-    by : (accepted : Bool) → (if accepted then Some (step w e) else None) ≡ Some v → v.count ≡ w.count + 1
+    by : (accepted : Bool) → (if accepted then Some (live (step w e)) else None) ≡ Some v → v.count ≡ w.count + 1
     by true same = sym (ap (counted w) same)
     by false same = sym (ap (counted w) same)

@@ -1,25 +1,32 @@
 -- What each command does to a state.
-use Rattle.std.specs.Prelude.{ℕ, ◌+◌, Bool, false, nat_eq, List, [], ◌∷◌, ◌++◌, length, map, set, if◌then◌else◌}
+use Rattle.std.specs.Prelude.{ℕ, ◌+◌, Bool, true, false, ◌&&◌, not, nat_eq, List, [], ◌∷◌, ◌++◌, Option, Some, None, length, map, filter, if◌then◌else◌}
 use Rattle.std.specs.List.{list_any}
+use Rattle.ps_config.specs.Masks.{masked_topic, masked_sub}
+use Rattle.ps_config.specs.declared.config.SubConfig.{SubConfig}
+use Rattle.ps_config.specs.declared.config.TopicConfig.{TopicConfig}
+use Rattle.ps_config.specs.declared.mask.Mask.{Mask}
+use Rattle.ps_filter.specs.Filters.{meets}
 use Rattle.ps_message.specs.declared.message.Message.{Message}
 use Rattle.ps_model.specs.declared.mark.Slot.{Slot}
 use Rattle.ps_model.specs.declared.mark.Handed.{Handed}
 use Rattle.ps_model.specs.declared.mark.Ticket.{Ticket}
-use Rattle.ps_config.specs.declared.config.TopicConfig.{TopicConfig}
-use Rattle.ps_config.specs.declared.config.SubConfig.{SubConfig}
 use Rattle.ps_model.specs.declared.world.MessageRow.{MessageRow}
+use Rattle.ps_model.specs.declared.world.TopicRow.{TopicRow}
 use Rattle.ps_model.specs.Acknowledging.{acknowledge}
 use Rattle.ps_model.specs.Choice.{choice, handed, lent}
 use Rattle.ps_model.specs.Failing.{fail, is_due}
 use Rattle.ps_model.specs.Forwarding.{message_rows}
 use Rattle.ps_model.specs.Seeking.{fresh}
 use Rattle.ps_model.specs.Worlds.{item_at}
+use Rattle.ps_sub.specs.Showing.{has}
 use Rattle.ps_core.specs.declared.kept_subscription.KeptSubscription.{KeptSubscription}
 use Rattle.ps_core.specs.State.{State}
 
 -- the subscription with other slots
 abbrev pub with_slots : KeptSubscription → List Slot → KeptSubscription
 with_slots x slots = record x { sub = record x.sub { slots = slots } }
+
+-- ---- settling
 
 -- the leases of a subscription that are over fail
 abbrev pub settle_subscription : ℕ → KeptSubscription → KeptSubscription
@@ -36,38 +43,85 @@ is_any_due at s = list_any (λ (x : KeptSubscription). list_any (is_due at) x.su
 abbrev pub recorded_at : ℕ → State → State
 recorded_at at s = record s { now = at; count = s.count + 1 }
 
+-- ---- topics
+
 abbrev pub add_topic : List ℕ → TopicConfig → State → State
 add_topic name config s = record s { next_topic = s.next_topic + 1; topics = s.topics ++ (record { number = s.next_topic; name = name; config = config }) ∷ [] }
 
+-- the topic with this row's number has this row
+abbrev pub put_topic : TopicRow → State → State
+put_topic row s = record s { topics = map (λ (r : TopicRow). if nat_eq r.number row.number then row else r) s.topics }
+
+abbrev pub configure_topic : Mask → TopicConfig → TopicRow → TopicRow
+configure_topic mask config r = record r { config = masked_topic mask r.config config }
+
+abbrev pub drop_topic : ℕ → State → State
+drop_topic number s = record s { topics = filter (λ (r : TopicRow). not (nat_eq r.number number)) s.topics }
+
+-- ---- subscriptions
+
+-- what a subscription keeps of its filter's text, and none if every message enters
+abbrev pub filter_of : List ℕ → Option (List ℕ)
+filter_of [] = None
+filter_of (c ∷ cs) = Some (c ∷ cs)
+
+abbrev pub new_subscription : ℕ → List ℕ → ℕ → SubConfig → KeptSubscription
+new_subscription number name topic config =
+    record { number = number; name = name; topic = topic; detached = false; filter = filter_of config.filter; sub = record { slots = []; config = config; next_lease = 1 } }
+
 -- a subscription of the topic with this number
 abbrev pub add_subscription : List ℕ → ℕ → SubConfig → State → State
-add_subscription name topic config s = record s {
-  next_sub = s.next_sub + 1;
-  subscriptions = s.subscriptions ++ (record { number = s.next_sub; name = name; topic = topic; sub = record { slots = []; config = config; next_lease = 1 } }) ∷ [];
-}
+add_subscription name topic config s = record s { next_sub = s.next_sub + 1; subscriptions = s.subscriptions ++ new_subscription s.next_sub name topic config ∷ [] }
+
+-- the subscription with this one's number is this one
+abbrev pub put_subscription : KeptSubscription → State → State
+put_subscription x s = record s { subscriptions = map (λ (y : KeptSubscription). if nat_eq y.number x.number then x else y) s.subscriptions }
+
+abbrev pub configure_subscription : Mask → SubConfig → KeptSubscription → KeptSubscription
+configure_subscription mask config x = record x { sub = record x.sub { config = masked_sub mask x.sub.config config } }
+
+-- nothing enters any more, and everything that had entered is gone
+abbrev pub detach_subscription : KeptSubscription → KeptSubscription
+detach_subscription x = record x { detached = true; sub = record x.sub { slots = [] } }
+
+-- some subscription has the message
+abbrev pub is_had : List KeptSubscription → ℕ → Bool
+is_had subscriptions number = list_any (λ (x : KeptSubscription). has x.sub.slots number) subscriptions
+
+-- the messages that no subscription has go
+abbrev pub let_go : State → State
+let_go s = record s { messages = filter (λ (m : MessageRow). is_had s.subscriptions m.number) s.messages }
+
+abbrev pub drop_subscription : ℕ → State → State
+drop_subscription number s = let_go (record s { subscriptions = filter (λ (x : KeptSubscription). not (nat_eq x.number number)) s.subscriptions })
+
+-- ---- messages
 
 -- a message that entered
 abbrev pub slot_in : MessageRow → Slot
 slot_in m = record { item = item_at m.number m; mark = fresh }
 
--- the messages enter a subscription of their topic
+-- of new messages those that match the subscription's filter
+abbrev pub wanted_of : KeptSubscription → List MessageRow → List MessageRow
+wanted_of x rows = filter (λ (m : MessageRow). meets x.sub.config.filter m.message) rows
+
+-- the subscription is one of the topic with this number, and isn't detached
+abbrev pub is_attached : ℕ → KeptSubscription → Bool
+is_attached topic x = nat_eq x.topic topic && not x.detached
+
+-- the messages that a subscription of their topic wants enter it
 abbrev pub enter_subscription : ℕ → List MessageRow → KeptSubscription → KeptSubscription
-enter_subscription topic rows x = if nat_eq x.topic topic then with_slots x (x.sub.slots ++ map slot_in rows) else x
+enter_subscription topic rows x = if is_attached topic x then with_slots x (x.sub.slots ++ map slot_in (wanted_of x rows)) else x
 
-abbrev pub has_subscription : ℕ → List KeptSubscription → Bool
-has_subscription topic subscriptions = list_any (λ (x : KeptSubscription). nat_eq x.topic topic) subscriptions
-
-abbrev pub kept_if : Bool → MessageRow → MessageRow
-kept_if kept m = record m { kept = kept }
-
--- new messages of the topic with this number; they are kept where some subscription has them
+-- new messages of the topic with this number; those stay that some subscription has
 abbrev pub add_published : ℕ → ℕ → List Message → State → State
 add_published at topic messages s =
     let rows = message_rows topic s.next_message at messages in
+    let subscriptions = map (enter_subscription topic rows) s.subscriptions in
     record s {
       next_message = s.next_message + length rows;
-      subscriptions = map (enter_subscription topic rows) s.subscriptions;
-      messages = s.messages ++ map (kept_if (has_subscription topic s.subscriptions)) rows;
+      subscriptions = subscriptions;
+      messages = s.messages ++ filter (λ (m : MessageRow). is_had subscriptions m.number) rows;
     }
 
 -- what a pull of this subscription hands out
@@ -81,7 +135,3 @@ lend_subscription deadline given x = record x { sub = record x.sub { slots = len
 -- the subscription after these acknowledged
 abbrev pub ack_subscription : List Ticket → KeptSubscription → KeptSubscription
 ack_subscription tickets x = with_slots x (acknowledge x.sub.config tickets x.sub.slots)
-
--- another subscription at a place
-abbrev pub put_subscription : ℕ → KeptSubscription → State → State
-put_subscription place x s = record s { subscriptions = set s.subscriptions place x }

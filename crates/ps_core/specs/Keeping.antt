@@ -1,47 +1,60 @@
 -- What a core keeps beside its state, to find things and to know when to look.
-use Rattle.std.specs.Prelude.{◌≡◌, ◌+◌, ◌<◌, false, ℕ, nat_eq, List, [], ◌∷◌, Option, map, position, if◌then◌else◌}
+use Rattle.std.specs.Prelude.{◌≡◌, ◌<◌, ◌&&◌, false, ℕ, Bool, List, Option, map, find, option_map}
+use Rattle.std.specs.BTreeMap.{get_by_text, values}
 use Rattle.std.specs.List.{AllByRecursion}
 use Rattle.std.specs.Str.{bytes_eq}
+use Rattle.ps_model.specs.declared.world.MessageRow.{MessageRow}
 use Rattle.ps_model.specs.declared.world.TopicRow.{TopicRow}
+use Rattle.ps_model.specs.Lists.{tally}
+use Rattle.ps_sub.specs.Showing.{has}
 use Rattle.ps_core.specs.declared.kept_subscription.KeptSubscription.{KeptSubscription}
+use Rattle.ps_core.specs.declared.name_index.NameIndex.{NameIndex}
+use Rattle.ps_core.specs.declared.tables.KeptMessage.{KeptMessage}
 use Rattle.ps_core.specs.declared.tables.KeptTopic.{KeptTopic}
 use Rattle.ps_core.specs.declared.tables.Tables.{Tables}
-use Rattle.std.specs.HashMap.{get_by_text}
-use Rattle.ps_core.specs.State.{State}
+use Rattle.ps_core.specs.State.{State, number_of, topic_number}
 use Rattle.ps_core.specs.Steady.{IsSteady}
-use Rattle.ps_core.specs.Effects.{is_any_due}
+use Rattle.ps_core.specs.Effects.{is_any_due, is_attached}
 
--- where the subscriptions of a topic stand, counted on from a place
-abbrev pub places_from : ℕ → ℕ → List KeptSubscription → List ℕ
-places_from place topic [] = []
-places_from place topic (x ∷ xs) = if nat_eq x.topic topic then place ∷ places_from (place + 1) topic xs else places_from (place + 1) topic xs
+-- each value stands at its own number
+abbrev pub IsNumbered : {A : Type 0} → (A → ℕ) → List (ℕ × A) → Type 0
+IsNumbered number entries = map (λ e. e.0) entries ≡ map (λ e. number e.1) entries
 
-abbrev pub places_of : ℕ → List KeptSubscription → List ℕ
-places_of topic subscriptions = places_from 0 topic subscriptions
+abbrev pub has_topic_name : List ℕ → TopicRow → Bool
+has_topic_name name r = bytes_eq r.name name
 
-abbrev pub topic_place : List ℕ → List TopicRow → Option ℕ
-topic_place name topics = position (λ (r : TopicRow). bytes_eq r.name name) topics
+abbrev pub has_name : List ℕ → KeptSubscription → Bool
+has_name name x = bytes_eq x.name name
 
-abbrev pub subscription_place : List ℕ → List KeptSubscription → Option ℕ
-subscription_place name subscriptions = position (λ (x : KeptSubscription). bytes_eq x.name name) subscriptions
+-- the number of the topic with this name, of the subscription with this name, and of one that is attached to a topic
+abbrev pub topic_at : List ℕ → List TopicRow → Option ℕ
+topic_at name topics = option_map topic_number (find (has_topic_name name) topics)
 
-pub record IsKept (s : State) (next_end : ℕ) (members : List (List ℕ)) (topic_at subscription_at : List ℕ → Option ℕ) : Type 0 where
-  pub steady : IsSteady s
-  -- names are found where they stand
-  pub topic_places : (name : List ℕ) → topic_at name ≡ topic_place name s.topics
-  pub subscription_places : (name : List ℕ) → subscription_at name ≡ subscription_place name s.subscriptions
-  -- each topic has the places of its subscriptions
-  pub subs : members ≡ map (λ (r : TopicRow). places_of r.number s.subscriptions) s.topics
-  -- the topic of each was made
-  pub made : AllByRecursion (λ (x : KeptSubscription). x.topic < s.next_topic) s.subscriptions
-  -- no lease ends before this moment
-  pub none_before : (at : ℕ) → at < next_end → is_any_due at s ≡ false
+abbrev pub subscription_at : List ℕ → List KeptSubscription → Option ℕ
+subscription_at name subscriptions = option_map number_of (find (has_name name) subscriptions)
+
+abbrev pub attached_at : ℕ → List ℕ → List KeptSubscription → Option ℕ
+attached_at topic name subscriptions = option_map number_of (find (λ (x : KeptSubscription). has_name name x && is_attached topic x) subscriptions)
+
+abbrev pub numbered : NameIndex → List ℕ → Option ℕ
+numbered index name = get_by_text index.numbers name
+
+-- a topic has its attached subscriptions by name
+abbrev pub HasMembers : List KeptSubscription → KeptTopic → Type 0
+HasMembers subscriptions x = (name : List ℕ) → numbered x.subs name ≡ attached_at x.row.number name subscriptions
+
+-- how many subscriptions have a message
+abbrev pub holders_of : List KeptSubscription → ℕ → ℕ
+holders_of subscriptions number = tally (λ (x : KeptSubscription). has x.sub.slots number) subscriptions
+
+abbrev pub IsCounted : List KeptSubscription → KeptMessage → Type 0
+IsCounted subscriptions x = x.holders ≡ holders_of subscriptions x.row.number
 
 abbrev pub the_row : KeptTopic → TopicRow
 the_row x = x.row
 
-abbrev pub the_subs : KeptTopic → List ℕ
-the_subs x = x.subs.items
+abbrev pub the_message : KeptMessage → MessageRow
+the_message x = x.row
 
 -- the state that these numbers and tables make
 abbrev pub state_of : ℕ → ℕ → ℕ → ℕ → ℕ → Tables → State
@@ -51,10 +64,19 @@ state_of now count next_topic next_sub next_message tables = record {
   next_topic = next_topic;
   next_sub = next_sub;
   next_message = next_message;
-  topics = map the_row tables.topics.items;
-  subscriptions = tables.subscriptions.items;
-  messages = tables.messages.items;
+  topics = map the_row (values tables.topics);
+  subscriptions = values tables.subscriptions;
+  messages = map the_message (values tables.messages);
 }
 
-abbrev pub IsKeptIn : State → ℕ → Tables → Type 0
-IsKeptIn s next_end tables = IsKept s next_end (map the_subs tables.topics.items) (get_by_text tables.topic_places.places) (get_by_text tables.subscription_places.places)
+pub record IsKept (s : State) (next_end : ℕ) (tables : Tables) : Type 0 where
+  pub steady : IsSteady s
+  pub topics : IsNumbered (λ (x : KeptTopic). x.row.number) tables.topics.entries
+  pub topic_numbers : (name : List ℕ) → numbered tables.topic_numbers name ≡ topic_at name s.topics
+  pub subscriptions : IsNumbered number_of tables.subscriptions.entries
+  pub subscription_numbers : (name : List ℕ) → numbered tables.subscription_numbers name ≡ subscription_at name s.subscriptions
+  pub members : AllByRecursion (HasMembers s.subscriptions) (values tables.topics)
+  pub messages : IsNumbered (λ (x : KeptMessage). x.row.number) tables.messages.entries
+  pub holders : AllByRecursion (IsCounted s.subscriptions) (values tables.messages)
+  -- no lease ends before this moment
+  pub none_before : (at : ℕ) → at < next_end → is_any_due at s ≡ false

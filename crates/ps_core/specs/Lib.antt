@@ -11,4 +11,7 @@ pub mod Counts
 pub mod Carrying
 pub mod Delivering
 pub mod Stats
+pub mod Settling
 pub mod TableEdits
+pub mod Pages
+pub mod Changing

@@ -1,5 +1,5 @@
 -- What a core keeps, and the world that it stands for.
-use Rattle.std.specs.Prelude.{ℕ, false, List, [], map, flat_map}
+use Rattle.std.specs.Prelude.{ℕ, List, [], map, flat_map}
 use Rattle.ps_model.specs.declared.mark.Slot.{Slot}
 use Rattle.ps_model.specs.declared.world.World.{World}
 use Rattle.ps_model.specs.declared.world.TopicRow.{TopicRow}
@@ -9,6 +9,7 @@ use Rattle.ps_model.specs.declared.world.MarkRow.{MarkRow}
 use Rattle.ps_model.specs.Worlds.{row_of}
 use Rattle.ps_core.specs.declared.kept_subscription.KeptSubscription.{KeptSubscription}
 
+-- topics, subscriptions and messages in order of their numbers; of the messages those that some subscription has
 pub record State : Type 0 where
   pub now : ℕ
   pub count : ℕ
@@ -20,7 +21,7 @@ pub record State : Type 0 where
   pub messages : List MessageRow
 
 abbrev pub sub_row : KeptSubscription → SubRow
-sub_row x = record { number = x.number; name = x.name; topic = x.topic; config = x.sub.config; detached = false; next_lease = x.sub.next_lease }
+sub_row x = record { number = x.number; name = x.name; topic = x.topic; config = x.sub.config; detached = x.detached; next_lease = x.sub.next_lease }
 
 abbrev pub slots_in : KeptSubscription → List Slot
 slots_in x = x.sub.slots
@@ -28,10 +29,14 @@ slots_in x = x.sub.slots
 abbrev pub number_of : KeptSubscription → ℕ
 number_of x = x.number
 
+abbrev pub topic_number : TopicRow → ℕ
+topic_number r = r.number
+
 -- the marks of one subscription behind those of the one before it
 abbrev pub flat_marks : List KeptSubscription → List MarkRow
 flat_marks subscriptions = flat_map (λ (x : KeptSubscription). map (row_of x.number) x.sub.slots) subscriptions
 
+-- a live world: it has no mark that is gone, and no message that isn't kept
 abbrev pub seen : State → World
 seen s = record {
   now = s.now;

@@ -12,8 +12,8 @@ pub fn law_accepted()
     ensures { AcceptsWhatIsRecorded }
 {}
 
-/// Entries lead to a world one by one if and only if they are a history of commands that are built, and it is the
-/// world after that history.
+/// From the empty world entries lead to a world one by one if and only if they are a history of commands that are built,
+/// and it is the live part of the world after that history.
 pub fn law_history()
     ensures { HistoriesLead }
 {}

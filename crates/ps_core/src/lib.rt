@@ -6,8 +6,9 @@ mod entering;
 mod kept_subscription;
 mod laws;
 mod machine;
-mod messages;
 mod name_index;
+mod releasing;
+mod same;
 mod service;
 mod tables;
 

@@ -5,12 +5,16 @@ ghost use Rattle.ps_model.specs.Step as rules;
 mod applying;
 mod counting;
 mod creating;
+mod deleting;
 mod delivering;
 mod due;
 mod judging;
+mod listing;
+mod looking;
 mod outcome;
 mod publishing;
 mod settling;
+mod updating;
 
 use crate::tables::Tables;
 use ps_base::Moment;
@@ -36,13 +40,13 @@ pub struct Core {
 
 impl Model for Core {
     ghost use Rattle.ps_core.specs.State.{State};
-    ghost use Rattle.ps_core.specs.Keeping.{state_of, IsKeptIn};
+    ghost use Rattle.ps_core.specs.Keeping.{state_of, IsKept};
 
     ghost Value = { State };
 
     ghost view = { λ it. state_of it.clock it.count it.next_topic it.next_sub it.next_message it.tables };
 
-    ghost invariant = { λ it. IsKeptIn (state_of it.clock it.count it.next_topic it.next_sub it.next_message it.tables) it.next_end it.tables };
+    ghost invariant = { λ it. IsKept (state_of it.clock it.count it.next_topic it.next_sub it.next_message it.tables) it.next_end it.tables };
 }
 
 impl Core {

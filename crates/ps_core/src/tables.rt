@@ -1,149 +1,166 @@
-ghost use Rattle.std.specs.Prelude.{◌≡◌, ◌++◌, ◌∷◌, [], None, List, ℕ, OnOk, ◌<◌, ◌+◌, ◌^◌, map, length, get_or};
-ghost use Rattle.ps_model.specs.Checks.{new_sub_fault};
-ghost use Rattle.std.specs.List.{AllByRecursion};
-ghost use Rattle.std.specs.HashMap.{get_by_text};
-ghost use Rattle.ps_core.specs.Entering.{IsBefore};
+ghost use Rattle.std.specs.Prelude.{◌≡◌, [], None, List, ℕ, true, OnOk};
+ghost use Rattle.std.specs.BTreeMap.{get_by_text};
 
-use crate::entering::{enter_each, message_rows};
+use crate::entering::{enter_each, keep_each};
 use crate::kept_subscription::KeptSubscription;
 use crate::name_index::NameIndex;
-use ps_base::{Duplicate, Moment, OutOfMemory};
+use ps_base::{Moment, OutOfMemory};
 use ps_message::Message;
-use ps_model::{MessageRow, SubConfig, TopicRow};
-use ps_names::SubName;
-use ps_sub::Sub;
+use ps_model::{MessageRow, TopicRow};
 use std::alloc::Global;
+use std::collections::BTreeMap;
 
 /// A topic as the core keeps it.
 #[derive(Drop)]
 pub struct KeptTopic {
     pub row: TopicRow,
-    /// The places of its subscriptions among all, ascending.
-    pub subs: Vec<usize>,
+    /// Its subscriptions that aren't detached.
+    pub subs: NameIndex,
 }
 
-/// The topics, subscriptions and messages of a core, with the indexes by name.
+/// A message that some subscription has.
+#[derive(Drop)]
+pub struct KeptMessage {
+    pub row: MessageRow,
+    /// How many subscriptions have it.
+    pub holders: u64,
+}
+
+/// The topics, subscriptions and messages of a core by number, and the numbers of topics and subscriptions by name.
 #[derive(Drop)]
 pub struct Tables {
-    pub topics: Vec<KeptTopic>,
-    pub topic_places: NameIndex,
-    pub subscriptions: Vec<KeptSubscription>,
-    pub subscription_places: NameIndex,
-    /// All messages that were published, in order of number.
-    pub messages: Vec<MessageRow>,
+    pub topics: BTreeMap<u64, KeptTopic>,
+    pub topic_numbers: NameIndex,
+    pub subscriptions: BTreeMap<u64, KeptSubscription>,
+    pub subscription_numbers: NameIndex,
+    pub messages: BTreeMap<u64, KeptMessage>,
 }
 
 impl Tables {
-    ghost use Rattle.ps_core.specs.Keeping.{the_row, the_subs, places_of};
-    ghost use Rattle.ps_core.specs.TableEdits.{AddsMember, PutsName, entered, kept_rows, new_subscription, number_at};
+    ghost use Rattle.ps_core.specs.TableEdits.{PutsName, AddsTopic, AddsSubscription, NamesSubscription, JoinsTopic, LeavesTopic, Detaches};
+    ghost use Rattle.ps_core.specs.Entering.{CanPublish, IsPublished, has_topic};
 
     /// Empty tables. Allocates nothing.
     pub fn new(alloc: Global) -> Tables
-        ensures topics { result.topics.items ≡ [] }
-        ensures topic_places { (name : List ℕ) → get_by_text result.topic_places.places name ≡ None }
-        ensures subscriptions { result.subscriptions.items ≡ [] }
-        ensures subscription_places { (name : List ℕ) → get_by_text result.subscription_places.places name ≡ None }
-        ensures messages { result.messages.items ≡ [] }
+        ensures topics { result.topics.entries ≡ [] }
+        ensures topic_numbers { (name : List ℕ) → get_by_text result.topic_numbers.numbers name ≡ None }
+        ensures subscriptions { result.subscriptions.entries ≡ [] }
+        ensures subscription_numbers { (name : List ℕ) → get_by_text result.subscription_numbers.numbers name ≡ None }
+        ensures messages { result.messages.entries ≡ [] }
     {
         Tables {
-            topics: Vec::new(alloc),
-            topic_places: NameIndex::new(alloc),
-            subscriptions: Vec::new(alloc),
-            subscription_places: NameIndex::new(alloc),
-            messages: Vec::new(alloc),
+            topics: BTreeMap::new(alloc),
+            topic_numbers: NameIndex::new(alloc),
+            subscriptions: BTreeMap::new(alloc),
+            subscription_numbers: NameIndex::new(alloc),
+            messages: BTreeMap::new(alloc),
         }
     }
 
     /// Adds a topic without subscriptions. After an error, drop the tables.
     pub fn add_topic(&mut self, alloc: Global, row: TopicRow) -> Result<(), OutOfMemory>
-        ensures topics { OnOk result (map the_row self.new.topics.items ≡ map the_row self.old.topics.items ++ row ∷ []) }
-        ensures subs { OnOk result (map the_subs self.new.topics.items ≡ map the_subs self.old.topics.items ++ [] ∷ []) }
-        ensures places { OnOk result (PutsName self.old.topic_places row.name (length (map the_row self.old.topics.items)) self.new.topic_places) }
-        ensures subscriptions { OnOk result (self.new.subscriptions.items ≡ self.old.subscriptions.items) }
-        ensures subscription_places { OnOk result (self.new.subscription_places ≡ self.old.subscription_places) }
-        ensures messages { OnOk result (self.new.messages.items ≡ self.old.messages.items) }
+        ensures topics { OnOk result (AddsTopic self.old.topics row self.new.topics) }
+        ensures topic_numbers { OnOk result (PutsName self.old.topic_numbers row.name row.number self.new.topic_numbers) }
+        ensures subscriptions { OnOk result (self.new.subscriptions ≡ self.old.subscriptions) }
+        ensures subscription_numbers { OnOk result (self.new.subscription_numbers ≡ self.old.subscription_numbers) }
+        ensures messages { OnOk result (self.new.messages ≡ self.old.messages) }
     {
-        let place = self.topics.len();
-        self.topic_places.put(alloc, row.name.text(), place)?;
-        self.topics.push(KeptTopic {
+        let number = row.number;
+        self.topic_numbers.put(alloc, row.name.text(), number)?;
+        let topic = KeptTopic {
             row,
-            subs: Vec::new(alloc),
-        })?;
+            subs: NameIndex::new(alloc),
+        };
+        self.topics.insert(number, topic)?;
         Ok(())
     }
 
-    /// Adds a subscription of the topic at this place. After an error, drop the tables.
+    /// Adds a subscription, which its topic then has too. After an error, drop the tables.
     pub fn add_subscription(
         &mut self,
         alloc: Global,
-        place: usize,
-        number: u64,
-        name: &SubName,
-        config: &SubConfig,
+        subscription: KeptSubscription,
     ) -> Result<(), OutOfMemory>
-        requires within { place < length self.old.topics.items }
-        requires settings { new_sub_fault config.now ≡ None }
-        ensures subscriptions { OnOk result ((x : KeptTopic) → self.new.subscriptions.items
-            ≡ self.old.subscriptions.items ++ new_subscription self.old place x number name.now config.now ∷ []) }
-        ensures places { OnOk result (PutsName self.old.subscription_places name.now (length self.old.subscriptions.items) self.new.subscription_places) }
-        ensures topics { OnOk result (map the_row self.new.topics.items ≡ map the_row self.old.topics.items) }
-        ensures subs { OnOk result (AddsMember (map the_subs self.old.topics.items) place (length self.old.subscriptions.items) (map the_subs self.new.topics.items)) }
-        ensures topic_places { OnOk result (self.new.topic_places ≡ self.old.topic_places) }
-        ensures messages { OnOk result (self.new.messages.items ≡ self.old.messages.items) }
+        ensures topics { OnOk result (JoinsTopic self.old.topics subscription self.new.topics) }
+        ensures topic_numbers { OnOk result (self.new.topic_numbers ≡ self.old.topic_numbers) }
+        ensures subscriptions { OnOk result (AddsSubscription self.old.subscriptions subscription self.new.subscriptions) }
+        ensures subscription_numbers { OnOk result (NamesSubscription self.old.subscription_numbers subscription self.new.subscription_numbers) }
+        ensures messages { OnOk result (self.new.messages ≡ self.old.messages) }
     {
-        let end = self.subscriptions.len();
-        self.subscription_places.put(alloc, name.text(), end)?;
-        let topic = &mut self.topics[place];
-        topic.subs.push(end)?;
-        let subscription = KeptSubscription {
-            number,
-            name: name.copy(alloc)?,
-            topic: topic.row.number,
-            sub: Sub::new(alloc, config, 1)?,
-        };
-        self.subscriptions.push(subscription)?;
+        let number = subscription.number;
+        self.subscription_numbers
+            .put(alloc, subscription.name.text(), number)?;
+        if let Some(topic) = self.topics.get_mut(&subscription.topic) {
+            topic.subs.put(alloc, subscription.name.text(), number)?;
+        }
+        self.subscriptions.insert(number, subscription)?;
         Ok(())
     }
 
-    /// Adds messages of the topic at this place, numbered from `first`, and adds them to its subscriptions. After an
-    /// error, drop the tables.
+    /// The topic with this number, if it is there, has no subscription of this name any more.
+    pub fn leave_topic(&mut self, topic: u64, name: &str)
+        ensures topics { LeavesTopic self.old.topics topic name.now self.new.topics }
+        ensures topic_numbers { self.new.topic_numbers ≡ self.old.topic_numbers }
+        ensures subscriptions { self.new.subscriptions ≡ self.old.subscriptions }
+        ensures subscription_numbers { self.new.subscription_numbers ≡ self.old.subscription_numbers }
+        ensures messages { self.new.messages ≡ self.old.messages }
+    {
+        if let Some(topic) = self.topics.get_mut(&topic) {
+            topic.subs.remove(name);
+        }
+    }
+
+    /// The subscription with this number is detached, and has no messages any more.
+    pub fn detach(&mut self, number: u64)
+        ensures topics { self.new.topics ≡ self.old.topics }
+        ensures topic_numbers { self.new.topic_numbers ≡ self.old.topic_numbers }
+        ensures subscriptions { Detaches self.old.subscriptions number self.new.subscriptions }
+        ensures subscription_numbers { self.new.subscription_numbers ≡ self.old.subscription_numbers }
+        ensures messages { self.new.messages ≡ self.old.messages }
+    {
+        if let Some(subscription) = self.subscriptions.get_mut(&number) {
+            subscription.detached = true;
+            let _dropped = subscription.sub.drop_all();
+        }
+    }
+
+    /// The messages enter the subscriptions of their topic, and those that one wants are kept. After an error, drop the
+    /// tables.
     pub fn publish(
         &mut self,
         alloc: Global,
-        place: usize,
+        topic: u64,
         first: u64,
         at: Moment,
         messages: &[Message],
     ) -> Result<(), OutOfMemory>
-        requires within { place < length self.old.topics.items }
-        requires numbers { first + length messages.now < 2 ^ 64 }
-        requires subs { (x : KeptTopic) → (get_or self.old.topics.items place x).subs.items ≡ places_of (number_at self.old place x) self.old.subscriptions.items }
-        requires before { AllByRecursion (λ x. AllByRecursion (IsBefore first at) x.sub.slots) self.old.subscriptions.items }
-        ensures subscriptions { OnOk result ((x : KeptTopic) → self.new.subscriptions.items
-            ≡ entered self.old place x first at messages.now) }
-        ensures messages { OnOk result ((x : KeptTopic) → self.new.messages.items
-            ≡ self.old.messages.items ++ kept_rows self.old place x first at messages.now) }
-        ensures topics { OnOk result (self.new.topics.items ≡ self.old.topics.items) }
-        ensures topic_places { OnOk result (self.new.topic_places ≡ self.old.topic_places) }
-        ensures subscription_places { OnOk result (self.new.subscription_places ≡ self.old.subscription_places) }
+        requires can { CanPublish first at messages.now self.old }
+        requires there { has_topic topic self.old ≡ true }
+        ensures { OnOk result (IsPublished first at topic messages.now self.old self.new) }
     {
-        let topic = &self.topics[place];
-        let kept = !topic.subs.is_empty();
-        let mut rows = message_rows(
-            alloc,
-            topic.row.number,
-            first,
-            at.milliseconds(),
-            kept,
-            messages,
-        )?;
+        let Some(kept) = self.topics.get(&topic) else {
+            return Ok(());
+        };
+        let numbers = kept.subs.all(alloc)?;
+        let mut holders = vec![in alloc; 0; messages.len()]?;
         enter_each(
             alloc,
-            rows.as_slice(),
-            topic.subs.as_slice(),
-            self.subscriptions.as_mut_slice(),
+            first,
+            at,
+            messages,
+            numbers.as_slice(),
+            &mut self.subscriptions,
+            holders.as_mut_slice(),
         )?;
-        self.messages.append(&mut rows)?;
-        Ok(())
+        let holders = holders.as_slice();
+        keep_each(
+            alloc,
+            topic,
+            first,
+            at,
+            messages,
+            holders,
+            &mut self.messages,
+        )
     }
 }

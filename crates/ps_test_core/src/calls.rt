@@ -14,15 +14,29 @@ use std::process::Abort;
 use std::test::Fail;
 use texts::{Answer, Recorded, call, replayed, text_of_recorded, text_of_stat};
 
-/// Rows by name. Only the commands of their entries are given, and their moments aren't looked at.
+/// Rows by name. Only the commands of their entries are given, and `replay` alone looks at their moments. `pull-many` is what is
+/// recorded of a pull that asks for more than one may, and that pull is given.
 const ROWS: &str = r#"
 tick 01 0000000000000000 01
 topic 01 0000000000000000 02 00000015 "projects/p/topics/abc" 00000000 00
+retained-topic 01 0000000000000000 02 00000015 "projects/p/topics/abc" 00000000 01 00000000000927c0
 labelled-topic 01 0000000000000000 02 00000015 "projects/p/topics/abc" 00000001 00000001 "a" 00000001 "1" 00
+update-topic 01 00000000000007d0 03 00000015 "projects/p/topics/abc" 00000001 00000001 00000001 "a" 00000001 "1" 00
+update-topic-unmasked 01 00000000000007d0 03 00000015 "projects/p/topics/abc" 00000001 00000000 01 00000000000927c0
+update-topic-no-mask 01 00000000000007d0 03 00000015 "projects/p/topics/abc" 00000000 00000000 00
+update-topic-wide-mask 01 00000000000007d0 03 00000015 "projects/p/topics/abc" 00000005 00000001 00000001 "a" 00000001 "1" 00
+delete-topic 01 00000000000007d0 04 00000015 "projects/p/topics/abc"
 subscription 01 0000000000000000 05 0000001c "projects/p/subscriptions/sub" 00000015 "projects/p/topics/abc" 0000000a 00 00000000240c8400 00000000 00 01 000000009fa52400 00000000 00 00 00
+filtered-subscription 01 0000000000000000 05 0000001c "projects/p/subscriptions/sub" 00000015 "projects/p/topics/abc" 0000000a 00 00000000240c8400 00000000 00 01 000000009fa52400 0000000c "attributes:a" 00 00 00
+mixed-subscription 01 0000000000000000 05 0000001c "projects/p/subscriptions/sub" 00000015 "projects/p/topics/abc" 0000000a 00 00000000240c8400 00000000 00 01 000000009fa52400 0000002d "attributes:a" 20 "AND" 20 "attributes:b" 20 "OR" 20 "attributes:c" 00 00 00
+update-subscription 01 00000000000007d0 06 0000001c "projects/p/subscriptions/sub" 00000001 00000014 00 00000000240c8400 00000000 00 01 000000009fa52400 00000000 00 00 00
+update-subscription-unmasked 01 00000000000007d0 06 0000001c "projects/p/subscriptions/sub" 00000008 00000014 00 00000000240c8400 00000001 00000001 "a" 00000001 "1" 00 01 000000009fa52400 00000000 00 00 00
+update-subscription-filter 01 00000000000007d0 06 0000001c "projects/p/subscriptions/sub" 00000001 00000014 00 00000000240c8400 00000000 00 01 000000009fa52400 0000000c "attributes:a" 00 00 00
+delete-subscription 01 00000000000007d0 07 0000001c "projects/p/subscriptions/sub"
+detach 01 00000000000007d0 08 0000001c "projects/p/subscriptions/sub"
 publish-two 01 0000000000000000 0c 00000015 "projects/p/topics/abc" 00000002 00000001 "a" 00000000 00000000 00000001 "a" 00000000 00000000
 pull-ten 01 0000000000000000 0d 0000001c "projects/p/subscriptions/sub" 0000000a 0000000000989680 00
-pull-many 01 0000000000000000 0d 0000001c "projects/p/subscriptions/sub" ffffffff 0000000000989680 01 00000005
+pull-many 01 0000000000000000 0d 0000001c "projects/p/subscriptions/sub" 000003e8 0000000000989680 01 0000000a
 pull-none 01 0000000000000000 0d 0000001c "projects/p/subscriptions/sub" 00000000 0000000000989680 00
 acknowledge 01 0000000000000000 0e 0000001c "projects/p/subscriptions/sub" 00000001 0000000000000001 0000000000000001 0000000000000001
 publish-one 01 0000000000000000 0c 00000015 "projects/p/topics/abc" 00000001 00000002 "hi" 00000000 00000000

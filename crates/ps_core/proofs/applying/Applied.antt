@@ -1,28 +1,30 @@
 -- When an entry is accepted.
-use Rattle.std.proofs.Common.{◌≡◌, ◌<◌, ◌^◌, ℕ, min, Bool, true, false, not, ◌&&◌, nat_eq, nat_le, List, Option, Some, None, option_map, if◌then◌else◌, refl, sym, ap, subst, ◌∙◌, arith}
+use Rattle.std.proofs.Common.{◌≡◌, ◌<◌, ◌^◌, ℕ, Bool, true, false, not, ◌&&◌, nat_eq, List, Option, Some, None, if◌then◌else◌, refl, sym, ap, subst, ◌∙◌}
 use Rattle.std.specs.Prelude.{is_none, is_some, MatchOption}
-use Rattle.std.proofs.lemmas.Bool.{ne_eqb, eqb-true, eqb-false, and_parts, leb-true}
+use Rattle.std.proofs.lemmas.Bool.{ne_eqb, eqb-true, eqb-false, and_parts}
 use Rattle.std.proofs.Math.Bool.{and-false}
 use Rattle.ps_base.specs.declared.reason.Reason.{Reason}
 use Rattle.ps_base.specs.declared.refusal.Refusal.{Refusal}
 use Rattle.ps_model.specs.declared.command.Command.{Command}
-use Rattle.ps_model.specs.declared.command.Command.TheVariants.{Tick, Pull}
+use Rattle.ps_model.specs.declared.command.Command.TheVariants.{Tick}
 use Rattle.ps_model.specs.declared.command.Entry.{Entry}
 use Rattle.ps_model.specs.declared.reply.Reply.{Reply}
 use Rattle.ps_model.specs.declared.world.World.{World}
-use Rattle.ps_model.specs.Checks.{argument_fault, as_read, lease_seconds}
+use Rattle.ps_model.specs.Checks.{argument_fault, as_read, is_normal}
 use Rattle.ps_model.specs.Commands.{is_full}
+use Rattle.ps_model.specs.Live.{live}
 use Rattle.ps_model.specs.Outcomes.{Outcome}
 use Rattle.ps_model.specs.Same.{same_world}
 use Rattle.ps_model.specs.Step as rules
 use Rattle.ps_model.proofs.SameLemmas.{world-same}
+use Rattle.ps_model.proofs.NormalForms.{normal-read}
 use Rattle.ps_core.specs.Built.{unbuilt}
 use Rattle.ps_core.specs.State.{State, seen}
 use Rattle.ps_core.specs.Steady.{IsSteady}
 use Rattle.ps_core.specs.Effects.{settle_state, is_any_due, recorded_at}
 use Rattle.ps_core.specs.Carrying.{IsCarried}
 use Rattle.ps_core.specs.Applying.{Applies}
-use Rattle.ps_core.specs.Calls.{is_normal, is_lease_normal, is_tick, is_step, is_accepted, next, refusal_by, refusal_of}
+use Rattle.ps_core.specs.Calls.{is_tick, is_step, is_accepted, next, refusal_by, refusal_of}
 use Rattle.ps_core.proofs.judging.Changed.{judged-changed, test-seen}
 use Rattle.ps_core.proofs.judging.Refused.{no_refusal, refused-outcome, room_left}
 use Rattle.ps_core.proofs.judging.Rests.{judged-moved}
@@ -31,24 +33,12 @@ use Rattle.ps_core.proofs.judging.Settled.{settled-moves}
 pub applies-not : (w : World) (e : Entry) (new : World) → is_accepted w e ≡ false → Applies w e false new
 applies-not w e new test = by (is_accepted w e) test
   where
-    by : (b : Bool) → b ≡ false → MatchOption (if b then Some (rules.step w e) else None) (◌≡◌ {A = Bool} false false) (λ v. (◌≡◌ {A = Bool} false true) × (new ≡ v))
+    by : (b : Bool) → b ≡ false → MatchOption (if b then Some (live (rules.step w e)) else None) (◌≡◌ {A = Bool} false false) (λ v. (◌≡◌ {A = Bool} false true) × (new ≡ v))
     by true is = absurd (cc)
     by false is = refl
 
 pub applies : (w : World) (e : Entry) (new : World) → next w e ≡ Some new → Applies w e true new
 applies w e new is = subst (λ (o : Option World). MatchOption o (◌≡◌ {A = Bool} true false) (λ v. (◌≡◌ {A = Bool} true true) × (new ≡ v))) (sym is) (refl, refl)
-
--- the form in which it is recorded is its own
-lease-read : (o : Option ℕ) → is_lease_normal o ≡ true → option_map lease_seconds o ≡ o
-lease-read None normal = refl
-lease-read (Some seconds) normal = let parts = and_parts (nat_le 10 seconds) (nat_le seconds 600) normal in let least = leb-true 10 seconds parts.0 in let most = leb-true seconds 600 parts.1 in ap (λ (n : ℕ). Some n) (omega (arith, least, most))
-
-pub normal-read : (c : Command) → unbuilt c ≡ None → is_normal c ≡ true → as_read c ≡ c
-normal-read (Pull n most budget seconds) built normal =
-    let parts = and_parts (nat_le most 1000) (is_lease_normal seconds) normal in
-    let few : min most 1000 ≡ most = let le = leb-true most 1000 parts.0 in omega (arith, le) in
-    λ i. Pull n (few i) budget (lease-read seconds parts.1 i)
-normal-read _ built normal = cc
 
 -- ---- what isn't accepted
 
@@ -107,10 +97,10 @@ not-changed s made at c told steady room carried none =
 
 -- ---- what is accepted
 
-pub taken-changed : (s made : State) (at : ℕ) (c : Command) (told : Reply) → IsSteady s → s.count < 2 ^ 50 → unbuilt c ≡ None → is_normal c ≡ true → rules.moment (seen s) at ≡ at → IsCarried at (as_read c) (settle_state at s) made told true
+pub taken-changed : (s made : State) (at : ℕ) (c : Command) (told : Reply) → IsSteady s → s.count < 2 ^ 50 → unbuilt c ≡ None → argument_fault (as_read c) ≡ None → is_normal c ≡ true → rules.moment (seen s) at ≡ at → IsCarried at (as_read c) (settle_state at s) made told true
     → next (seen s) (record { now = at; command = c }) ≡ Some (seen made)
-taken-changed s made at c told steady room built normal moment carried =
-    ap (λ (x : Command). next (seen s) (record { now = at; command = x })) (sym (normal-read c built normal)) ∙ (judged-changed s made at c told steady room built at (sym moment) carried).after
+taken-changed s made at c told steady room built good normal moment carried =
+    ap (λ (x : Command). next (seen s) (record { now = at; command = x })) (sym (normal-read c normal)) ∙ (judged-changed s made at c told steady room built good at (sym moment) carried).after
 
 pub tick-is : (c : Command) → is_tick c ≡ true → c ≡ Tick
 tick-is Tick is = refl
@@ -150,7 +140,7 @@ none-is (Some x) h = absurd (cc)
 pub can-carry : (s : State) (c : Command) → IsSteady s → is_some (refusal_of (seen s) c) ≡ false → is_normal c ≡ true → (s.count < 2 ^ 50) × ((unbuilt c ≡ None) × (argument_fault c ≡ None))
 can-carry s c steady good normal =
     let open_command = no_refusal (seen s) c (none-is (refusal_of (seen s) c) good) in
-    (room_left s steady open_command.1.1, (open_command.0, ap argument_fault (sym (normal-read c open_command.0 normal)) ∙ open_command.1.0))
+    (room_left s steady open_command.1.1, (open_command.0, ap argument_fault (sym (normal-read c normal)) ∙ open_command.1.0))
 
 -- the moment is the entry's own
 pub tried-at : (s made : State) (moment at : ℕ) (c : Command) (moved changed : Bool) → moment ≡ at → IsTried s made moment c moved changed → IsTried s made at c moved changed
@@ -158,13 +148,13 @@ tried-at s made moment at c moved changed same tried = subst (λ (u : ℕ). IsTr
 
 -- as a command that was read, which it is
 tried-read : (s made : State) (at : ℕ) (c : Command) (moved changed : Bool) → (tried : IsTried s made at c moved changed) → unbuilt c ≡ None → IsCarried at (as_read c) (settle_state at s) made tried.told changed
-tried-read s made at c moved changed tried built = subst (λ (x : Command). IsCarried at x (settle_state at s) made tried.told changed) (sym (normal-read c built tried.normal)) tried.carried
+tried-read s made at c moved changed tried built = subst (λ (x : Command). IsCarried at x (settle_state at s) made tried.told changed) (sym (normal-read c tried.normal)) tried.carried
 
 pub tried-changed : (s made : State) (at : ℕ) (c : Command) (moved : Bool) → IsTried s made at c moved true → Applies (seen s) (record { now = at; command = c }) true (seen made)
 tried-changed s made at c moved tried =
     let open_command = no_refusal (seen s) c (none-is (refusal_of (seen s) c) tried.good) in
     let room = room_left s tried.steady open_command.1.1 in
-    applies (seen s) (record { now = at; command = c }) (seen made) (taken-changed s made at c tried.told tried.steady room open_command.0 tried.normal tried.moment (tried-read s made at c moved true tried open_command.0))
+    applies (seen s) (record { now = at; command = c }) (seen made) (taken-changed s made at c tried.told tried.steady room open_command.0 open_command.1.0 tried.normal tried.moment (tried-read s made at c moved true tried open_command.0))
 
 pub tried-not : (s made : State) (new : World) (at : ℕ) (c : Command) (moved : Bool) → IsTried s made at c moved false → (is_tick c && moved) ≡ false → Applies (seen s) (record { now = at; command = c }) false new
 tried-not s made new at c moved tried none =

@@ -1,6 +1,7 @@
 -- Numbers that are counted subscription by subscription, over the flat list of marks.
-use Rattle.std.proofs.Common.{◌≡◌, ◌+◌, ◌<◌, ◌≤◌, ℕ, zero, suc, Bool, true, false, cond, List, [], ◌∷◌, ◌++◌, length, map, take, get_or, ap, ◌∙◌, arith, add-one}
+use Rattle.std.proofs.Common.{◌≡◌, ◌+◌, ℕ, Bool, true, List, [], ◌∷◌, ◌++◌, length, map, refl, ap, ◌∙◌, arith, if◌then◌else◌, ◌<◌, zero, suc, false, cond, take, get_or, add-one}
 use Rattle.std.proofs.Math.Nat.{add-zero}
+use Rattle.std.specs.List.{AllByRecursion}
 use Rattle.ps_model.specs.declared.mark.Mark.{Mark}
 use Rattle.ps_model.specs.declared.mark.Slot.{Slot}
 use Rattle.ps_model.specs.declared.world.MarkRow.{MarkRow}
@@ -9,28 +10,6 @@ use Rattle.ps_model.specs.Worlds.{row_of}
 use Rattle.ps_core.specs.declared.kept_subscription.KeptSubscription.{KeptSubscription}
 use Rattle.ps_core.specs.State.{flat_marks}
 use Rattle.ps_core.specs.Stats.{capped}
-
-tally-take : {A : Type 0} (p : A → Bool) (xs : List A) (i : ℕ) (x : A) → i < length xs → x ≡ get_or xs i x → tally p (take (suc i) xs) ≡ tally p (take i xs) + cond (p x) 1 0
-tally-take p [] i x h is = absurd (omega arith)
-tally-take p (y ∷ ys) zero x h is = omega (arith, ap {B = ℕ} (λ z. cond (p z) 1 0) is)
-tally-take p (y ∷ ys) (suc i) x h is = omega (arith, tally-take p ys i x (omega arith) is)
-
--- one that passes the test is counted
-pub tally_more : {A : Type 0} (p : A → Bool) (xs : List A) (i : ℕ) (x : A) → i < length xs → x ≡ get_or xs i x → p x ≡ true → tally p (take (i + 1) xs) ≡ tally p (take i xs) + 1
-tally_more p xs i x h is passes = rw (add-one i) (tally-take p xs i x h is ∙ ap (λ (b : Bool). tally p (take i xs) + cond b 1 0) passes)
-
--- another isn't
-pub tally_same : {A : Type 0} (p : A → Bool) (xs : List A) (i : ℕ) (x : A) → i < length xs → x ≡ get_or xs i x → p x ≡ false → tally p (take (i + 1) xs) ≡ tally p (take i xs)
-tally_same p xs i x h is fails = rw (add-one i) (tally-take p xs i x h is ∙ ap (λ (b : Bool). tally p (take i xs) + cond b 1 0) fails ∙ add-zero _)
-
-pub tally-take_le : {A : Type 0} (p : A → Bool) (xs : List A) (i : ℕ) → tally p (take i xs) ≤ i
-tally-take_le p xs zero = omega arith
-tally-take_le p [] (suc i) = omega arith
-tally-take_le p (x ∷ xs) (suc i) = one (p x) (tally-take_le p xs i)
-  where
-    one : (b : Bool) → tally p (take i xs) ≤ i → cond b 1 0 + tally p (take i xs) ≤ suc i
-    one true h = omega arith
-    one false h = omega arith
 
 -- how many marks of a subscription pass the test
 abbrev pub marks_of : (Mark → Bool) → KeptSubscription → ℕ
@@ -45,17 +24,43 @@ tally-rows : (test : Mark → Bool) (n : ℕ) (ss : List Slot) (rest : List Mark
 tally-rows test n [] rest = omega arith
 tally-rows test n (s ∷ ss) rest = omega (arith, tally-rows test n ss rest)
 
--- those up to a place, and those of the subscription there
-marks_in-take : (test : Mark → Bool) (xs : List KeptSubscription) (i : ℕ) (x : KeptSubscription) → i < length xs → x ≡ get_or xs i x → marks_in test (take (suc i) xs) ≡ marks_in test (take i xs) + marks_of test x
-marks_in-take test [] i x h is = absurd (omega arith)
-marks_in-take test (y ∷ ys) zero x h is = omega (arith, tally-rows test y.number y.sub.slots [], ap (marks_of test) is)
-marks_in-take test (y ∷ ys) (suc i) x h is =
-    omega (arith, tally-rows test y.number y.sub.slots (flat_marks (take (suc i) ys)), tally-rows test y.number y.sub.slots (flat_marks (take i ys)), marks_in-take test ys i x (omega arith) is)
+-- what was counted so far, and what is left to count, make the sum over all subscriptions
+pub record IsCountedSoFar (test : Mark → Bool) (counted : ℕ) (left subscriptions : List KeptSubscription) : Type 0 where
+  pub sum : capped (counted + marks_in test left) ≡ capped (marks_in test subscriptions)
+  pub small : counted ≡ capped counted
 
--- one subscription more is counted
-pub capped_more : (test : Mark → Bool) (xs : List KeptSubscription) (i : ℕ) (x : KeptSubscription) (all one next : ℕ) → i < length xs → x ≡ get_or xs i x
-    → all ≡ capped (marks_in test (take i xs)) → one ≡ marks_of test x → next ≡ capped (all + one) → next ≡ capped (marks_in test (take (i + 1) xs))
-capped_more test xs i x all one next h is before here sum =
-    let at : i + 1 ≡ suc i = omega arith in
-    let more : marks_in test (take (i + 1) xs) ≡ marks_in test (take i xs) + marks_of test x = ap (λ (n : ℕ). marks_in test (take n xs)) at ∙ marks_in-take test xs i x h is in
-    omega arith
+pub none_counted : (test : Mark → Bool) (subscriptions : List KeptSubscription) → IsCountedSoFar test 0 subscriptions subscriptions
+none_counted test subscriptions = record { sum = omega arith; small = omega arith }
+
+-- the first of what is left is counted
+pub one_counted : (test : Mark → Bool) (x : KeptSubscription) (left rest subscriptions : List KeptSubscription) (counted one next : ℕ) → left ≡ x ∷ rest
+    → IsCountedSoFar test counted left subscriptions → one ≡ marks_of test x → next ≡ capped (counted + one) → IsCountedSoFar test next rest subscriptions
+one_counted test x left rest subscriptions counted one next is before here sum =
+    let more : marks_in test left ≡ marks_of test x + marks_in test rest = ap (marks_in test) is ∙ tally-rows test x.number x.sub.slots (flat_marks rest) in
+    record { sum = omega (arith, before.sum, more); small = omega arith }
+
+-- nothing is left
+pub all_counted : (test : Mark → Bool) (left subscriptions : List KeptSubscription) (counted : ℕ) → left ≡ [] → IsCountedSoFar test counted left subscriptions → counted ≡ capped (marks_in test subscriptions)
+all_counted test left subscriptions counted is before =
+    let none : marks_in test left ≡ 0 = ap (marks_in test) is in
+    omega (arith, before.sum, before.small, none)
+
+-- ---- members that pass a test, up to a place
+
+tally-take : {A : Type 0} (p : A → Bool) (xs : List A) (i : ℕ) (x : A) → i < length xs → x ≡ get_or xs i x → tally p (take (suc i) xs) ≡ tally p (take i xs) + cond (p x) 1 0
+tally-take p [] i x h is = absurd (omega arith)
+tally-take p (y ∷ ys) zero x h is = omega (arith, ap {B = ℕ} (λ z. cond (p z) 1 0) is)
+tally-take p (y ∷ ys) (suc i) x h is = omega (arith, tally-take p ys i x (omega arith) is)
+
+-- one that passes the test is counted
+pub tally_more : {A : Type 0} (p : A → Bool) (xs : List A) (i : ℕ) (x : A) → i < length xs → x ≡ get_or xs i x → p x ≡ true → tally p (take (i + 1) xs) ≡ tally p (take i xs) + 1
+tally_more p xs i x h is passes = rw (add-one i) (tally-take p xs i x h is ∙ ap (λ (b : Bool). tally p (take i xs) + cond b 1 0) passes)
+
+-- another isn't
+pub tally_same : {A : Type 0} (p : A → Bool) (xs : List A) (i : ℕ) (x : A) → i < length xs → x ≡ get_or xs i x → p x ≡ false → tally p (take (i + 1) xs) ≡ tally p (take i xs)
+tally_same p xs i x h is fails = rw (add-one i) (tally-take p xs i x h is ∙ ap (λ (b : Bool). tally p (take i xs) + cond b 1 0) fails ∙ add-zero _)
+
+-- where each member passes the test, all are counted
+pub tally_all : {A : Type 0} (test : A → Bool) (xs : List A) → AllByRecursion (λ (x : A). test x ≡ true) xs → tally test xs ≡ length xs
+tally_all test [] h = refl
+tally_all test (x ∷ xs) h = ap (λ (b : Bool). (if b then 1 else 0) + tally test xs) h.0 ∙ omega (arith, tally_all test xs h.1)

@@ -1,50 +1,40 @@
 -- A new subscription, as the rules say.
-use Rattle.std.proofs.Common.{ℕ, ◌≡◌, ◌≢◌, ◌+◌, ◌^◌, ◌<◌, ◌≤◌, zero, suc, Bool, true, false, ◌&&◌, nat_eq, List, [], ◌∷◌, ◌++◌, append-nil, Some, None, is_some, option_map, map, filter, find, length, get_or, refl, sym, ◌∙◌, ap, arith, if◌then◌else◌}
-use Rattle.std.specs.Prelude.{option_and_then}
-use Rattle.std.specs.Str.{bytes_eq}
-use Rattle.std.proofs.lemmas.Bool.{eq-eqb, ne_eqb}
+use Rattle.std.proofs.Common.{ℕ, ◌≡◌, ◌+◌, ◌^◌, ◌<◌, Bool, true, false, ◌&&◌, nat_eq, List, [], ◌∷◌, ◌++◌, append-nil, Option, Some, None, option_map, map, filter, find, refl, sym, ◌∙◌, ap, arith, if◌then◌else◌}
+use Rattle.std.proofs.lemmas.Bool.{false_from_ne_true}
 use Rattle.std.proofs.lemmas.List.{map-append}
-use Rattle.std.proofs.lemmas.List.Quantifiers.{position-Some}
-use Rattle.ps_base.specs.Moments.{last_moment}
 use Rattle.ps_base.specs.declared.refusal.Refusal.TheVariants.{NotFound, AlreadyExists}
+use Rattle.ps_config.specs.declared.config.DeadLetterPolicy.{DeadLetterPolicy}
+use Rattle.ps_config.specs.declared.config.SubConfig.{SubConfig}
+use Rattle.ps_filter.specs.Filters.{meets}
 use Rattle.ps_model.specs.declared.mark.Mark.TheVariants.{Done}
 use Rattle.ps_model.specs.declared.mark.DoneCause.TheVariants.{Acknowledged}
 use Rattle.ps_model.specs.declared.mark.Slot.{Slot}
-use Rattle.ps_config.specs.declared.config.TopicConfig.{TopicConfig}
-use Rattle.ps_config.specs.declared.config.SubConfig.{SubConfig}
 use Rattle.ps_model.specs.declared.command.Command.TheVariants.{CreateSubscription}
-use Rattle.ps_model.specs.declared.reply.Reply.{Reply}
 use Rattle.ps_model.specs.declared.reply.Reply.TheVariants.{Refused, Subscription}
-use Rattle.ps_model.specs.declared.world.TopicRow.{TopicRow}
-use Rattle.ps_model.specs.declared.world.SubRow.{SubRow}
-use Rattle.ps_model.specs.declared.world.MessageRow.{MessageRow}
 use Rattle.ps_model.specs.declared.world.MarkRow.{MarkRow}
+use Rattle.ps_model.specs.declared.world.MessageRow.{MessageRow}
+use Rattle.ps_model.specs.declared.world.SubRow.{SubRow}
+use Rattle.ps_model.specs.declared.world.TopicRow.{TopicRow}
+use Rattle.ps_model.specs.declared.world.World.{World}
 use Rattle.ps_model.specs.Checks.{new_sub_fault}
 use Rattle.ps_model.specs.Commands.{outcome}
-use Rattle.ps_filter.specs.Filters.{meets}
-use Rattle.ps_config.specs.Masks.{default_topic}
 use Rattle.ps_model.specs.Outcomes.{answers}
 use Rattle.ps_model.specs.Retention.{is_within}
-use Rattle.ps_model.specs.Showing.{topic_name}
-use Rattle.ps_model.specs.Sound.{Ordered}
+use Rattle.ps_model.specs.Same.{same_world, WorldParts}
+use Rattle.ps_model.specs.Showing.{sub_shown}
 use Rattle.ps_model.specs.Subscriptions.{retained_rows, missing_of, create_sub_named, create_sub_at}
-use Rattle.ps_model.specs.Worlds.{row_of, topic_named, sub_named, topic_numbered, window_of}
-use Rattle.ps_model.proofs.SameLemmas.{exact-bytes}
+use Rattle.ps_model.specs.Worlds.{row_of, topic_named, sub_named}
+use Rattle.ps_model.proofs.SameLemmas.{same-world}
 use Rattle.ps_core.specs.declared.kept_subscription.KeptSubscription.{KeptSubscription}
-use Rattle.ps_core.specs.Built.{unbuilt_sub_setting}
 use Rattle.ps_core.specs.Carrying.{IsCarried}
-use Rattle.ps_core.specs.Effects.{recorded_at, add_subscription}
-use Rattle.ps_core.specs.Keeping.{topic_place, subscription_place}
+use Rattle.ps_core.specs.Effects.{recorded_at, add_subscription, new_subscription}
+use Rattle.ps_core.specs.Keeping.{has_name}
 use Rattle.ps_core.specs.State.{State, sub_row, flat_marks, seen}
-use Rattle.ps_core.specs.Steady.{IsSteady}
-use Rattle.ps_base.proofs.Lists.{each-at}
+use Rattle.ps_core.specs.Steady.{HasGoodSettings, IsSteady}
+use Rattle.ps_core.proofs.carrying.Kept.{sub-named-seen}
 use Rattle.ps_core.proofs.carrying.Outcomes.{carried-left, carried-shown, outcome-open}
-use Rattle.ps_core.proofs.creating.Names.{place-of, topic-named, topic-unnamed}
-use Rattle.ps_core.proofs.creating.Settings.{sub-default}
-use Rattle.ps_core.proofs.creating.Steady.{subscription-steady}
-use Rattle.ps_core.proofs.creating.Topics.{made-finished, subscription-moves}
-use Rattle.ps_core.proofs.delivering.Seen.{named-seen, unnamed-seen}
-use Rattle.ps_core.proofs.delivering.Steady.{recorded-steady}
+use Rattle.ps_core.proofs.creating.Settings.{no-dead-letter}
+use Rattle.ps_core.proofs.creating.Topics.{live-recorded}
 
 -- no message of the topic is in its window
 retained-none : (at number : ℕ) (config : SubConfig) (rows : List MessageRow)
@@ -64,51 +54,44 @@ marks-push : (subscriptions : List KeptSubscription) (x : KeptSubscription) → 
 marks-push [] x e = ap (λ (slots : List Slot). map (row_of x.number) slots ++ []) e
 marks-push (y ∷ ys) x e = ap (λ (marks : List MarkRow). map (row_of y.number) y.sub.slots ++ marks) (marks-push ys x e)
 
--- topics ascend by number, so each is found by its own
-topic-numbered : (topics : List TopicRow) (place : ℕ) (d : TopicRow) → place < length topics → Ordered (λ (a b : TopicRow). a.number < b.number) topics
-    → find (λ (r : TopicRow). nat_eq r.number (get_or topics place d).number) topics ≡ Some (get_or topics place d)
-topic-numbered [] place d within up = absurd (omega arith)
-topic-numbered (r ∷ rs) zero d within up = rw (eq-eqb r.number r.number refl) refl
-topic-numbered (r ∷ rs) (suc place) d within up =
-    let above : r.number < (get_or rs place d).number = each-at (λ (b : TopicRow). r.number < b.number) rs place d (omega arith) up.0 in
-    let other : r.number ≢ (get_or rs place d).number = omega (arith, above) in
-    rw (ne_eqb r.number (get_or rs place d).number other) (topic-numbered rs place d (omega arith) up.1)
+subscription-moves : (name : List ℕ) (topic : ℕ) (config : SubConfig) (s : State) → same_world (seen s) (seen (add_subscription name topic config s)) ≡ false
+subscription-moves name topic config s =
+    false_from_ne_true (same_world (seen s) (seen (add_subscription name topic config s)))
+    (λ e. let next : s.next_sub ≡ s.next_sub + 1 = ap (λ (p : WorldParts). p.1.0) (same-world (seen s) (seen (add_subscription name topic config s)) e) in omega (arith, next))
 
-sub-open : (at : ℕ) (name topic : List ℕ) (config : SubConfig) (s : State) → s.count < 2 ^ 50 → unbuilt_sub_setting config ≡ None
+sub-open : (at : ℕ) (name topic : List ℕ) (config : SubConfig) (s : State) → s.count < 2 ^ 50 → new_sub_fault config ≡ None
     → outcome (seen s) at (CreateSubscription name topic config) ≡ create_sub_at (seen s) at name topic config (topic_named (seen s) topic)
-sub-open at name topic config s room built = outcome-open s at (CreateSubscription name topic config) room (ap new_sub_fault (sub-default config built))
+sub-open at name topic config s room good = outcome-open s at (CreateSubscription name topic config) room good
 
--- where the topic is there
-sub-there : (at : ℕ) (name topic : List ℕ) (config : SubConfig) (s : State) → s.count < 2 ^ 50 → unbuilt_sub_setting config ≡ None → (place : ℕ) (d : TopicRow) → topic_place topic s.topics ≡ Some place
-    → outcome (seen s) at (CreateSubscription name topic config) ≡ create_sub_named (seen s) at name (get_or s.topics place d) config None (sub_named (seen s) name)
-sub-there at name topic config s room built place d there =
-    sub-open at name topic config s room built ∙ ap (create_sub_at (seen s) at name topic config) (topic-named s topic place d there)
-    ∙ ap (λ (c : SubConfig). create_sub_named (seen s) at name (get_or s.topics place d) config (missing_of (seen s) c.dead_letter) (sub_named (seen s) name)) (sub-default config built)
+-- if the topic is there
+sub-there : (at : ℕ) (name topic : List ℕ) (config : SubConfig) (s : State) → s.count < 2 ^ 50 → HasGoodSettings config → (row : TopicRow) → topic_named (seen s) topic ≡ Some row
+    → outcome (seen s) at (CreateSubscription name topic config) ≡ create_sub_named (seen s) at name row config None (option_map sub_row (find (has_name name) s.subscriptions))
+sub-there at name topic config s room good row there =
+    sub-open at name topic config s room good.good ∙ ap (create_sub_at (seen s) at name topic config) there
+    ∙ ap (λ (p : Option DeadLetterPolicy). create_sub_named (seen s) at name row config (missing_of (seen s) p) (sub_named (seen s) name)) (no-dead-letter config good.built)
+    ∙ ap (create_sub_named (seen s) at name row config None) (sub-named-seen s name)
 
-pub sub-missing : (at : ℕ) (name topic : List ℕ) (config : SubConfig) (s : State) → s.count < 2 ^ 50 → unbuilt_sub_setting config ≡ None → topic_place topic s.topics ≡ None
+pub sub-missing : (at : ℕ) (name topic : List ℕ) (config : SubConfig) (s : State) → s.count < 2 ^ 50 → HasGoodSettings config → topic_named (seen s) topic ≡ None
     → IsCarried at (CreateSubscription name topic config) s s (Refused (NotFound topic)) false
-sub-missing at name topic config s room built missing =
+sub-missing at name topic config s room good missing =
     carried-shown at (CreateSubscription name topic config) s (Refused (NotFound topic))
-    (sub-open at name topic config s room built ∙ ap (create_sub_at (seen s) at name topic config) (topic-unnamed s topic missing))
+    (sub-open at name topic config s room good.good ∙ ap (create_sub_at (seen s) at name topic config) missing)
 
 -- the name of a new subscription is taken
-pub sub-taken : (at : ℕ) (name topic : List ℕ) (config : SubConfig) (s : State) → s.count < 2 ^ 50 → unbuilt_sub_setting config ≡ None → (place : ℕ) → topic_place topic s.topics ≡ Some place
-    → is_some (subscription_place name s.subscriptions) ≡ true → IsCarried at (CreateSubscription name topic config) s s (Refused (AlreadyExists name)) false
-sub-taken at name topic config s room built place there taken =
-    let found = place-of (subscription_place name s.subscriptions) taken in
-    let no_topic : TopicRow = record { number = 0; name = topic; config = default_topic } in
-    let no_subscription : KeptSubscription = record { number = 0; name = name; topic = 0; sub = record { slots = []; config = config; next_lease = 1 } } in
+pub sub-taken : (at : ℕ) (name topic : List ℕ) (config : SubConfig) (s : State) → s.count < 2 ^ 50 → HasGoodSettings config → (row : TopicRow) → topic_named (seen s) topic ≡ Some row
+    → (x : KeptSubscription) → find (has_name name) s.subscriptions ≡ Some x → IsCarried at (CreateSubscription name topic config) s s (Refused (AlreadyExists name)) false
+sub-taken at name topic config s room good row there x taken =
     carried-shown at (CreateSubscription name topic config) s (Refused (AlreadyExists name))
-    (sub-there at name topic config s room built place no_topic there ∙ ap (create_sub_named (seen s) at name (get_or s.topics place no_topic) config None) (named-seen s name found.0 no_subscription found.1))
+    (sub-there at name topic config s room good row there ∙ ap (λ (o : Option KeptSubscription). create_sub_named (seen s) at name row config None (option_map sub_row o)) taken)
 
 -- the world of the rules, with the subscription
-subscription-seen : (at : ℕ) (name : List ℕ) (topic : TopicRow) (config : SubConfig) (s : State) → topic.config ≡ default_topic
-    → (let row : SubRow = record { number = s.next_sub; name = name; topic = topic.number; config = config; detached = false; next_lease = 1 } in
+subscription-seen : (at : ℕ) (name : List ℕ) (topic : TopicRow) (config : SubConfig) (s : State) → topic.config.retention ≡ None
+    → (let row : SubRow = sub_row (new_subscription s.next_sub name topic.number config) in
     record (seen s) { next_sub = s.next_sub + 1; subs = map sub_row s.subscriptions ++ row ∷ []; marks = flat_marks s.subscriptions ++ retained_rows (seen s) at row topic.config.retention }) ≡ seen (add_subscription name topic.number config s)
-subscription-seen at name topic config s settings =
-    let x : KeptSubscription = record { number = s.next_sub; name = name; topic = topic.number; sub = record { slots = []; config = config; next_lease = 1 } } in
+subscription-seen at name topic config s window =
+    let x : KeptSubscription = new_subscription s.next_sub name topic.number config in
     let none : retained_rows (seen s) at (sub_row x) topic.config.retention ≡ [] =
-    ap (λ (c : TopicConfig). retained_rows (seen s) at (sub_row x) c.retention) settings
+    ap (λ (w : Option ℕ). retained_rows (seen s) at (sub_row x) w) window
     ∙ ap (map (λ (r : MessageRow). record { sub = s.next_sub; message = r.number; mark = Done Acknowledged })) (retained-none at topic.number config s.messages) in
     λ i. record (seen s) {
       next_sub = s.next_sub + 1;
@@ -116,22 +99,13 @@ subscription-seen at name topic config s settings =
       marks = (ap (λ (marks : List MarkRow). flat_marks s.subscriptions ++ marks) none ∙ append-nil (flat_marks s.subscriptions) ∙ sym (marks-push s.subscriptions x refl)) i;
     }
 
-pub sub-made : (at : ℕ) (name topic : List ℕ) (config : SubConfig) (s : State) → IsSteady s → s.count < 2 ^ 50 → s.now ≤ at → at ≤ last_moment → unbuilt_sub_setting config ≡ None
-    → (place : ℕ) (d : TopicRow) → topic_place topic s.topics ≡ Some place → subscription_place name s.subscriptions ≡ None
-    → IsCarried at (CreateSubscription name topic config) s (recorded_at at (add_subscription name (get_or s.topics place d).number config s))
-    (Subscription (record { name = name; topic = Some topic; config = config; detached = false; topic_retention = None })) true
-sub-made at name topic config s h room later within built place d there new =
-    let row : TopicRow = get_or s.topics place d in
-    let found = position-Some (λ (r : TopicRow). bytes_eq r.name topic) s.topics place d there in
-    let settings : row.config ≡ default_topic = each-at (λ (r : TopicRow). r.config ≡ default_topic) s.topics place d found.0 h.topic_settings in
-    let numbered : topic_numbered (seen s) row.number ≡ Some row = topic-numbered s.topics place d found.0 h.topics in
+pub sub-made : (at : ℕ) (name topic : List ℕ) (config : SubConfig) (s : State) → IsSteady s → (row : TopicRow) → IsSteady (recorded_at at (add_subscription name row.number config s)) → s.count < 2 ^ 50 → HasGoodSettings config
+    → topic_named (seen s) topic ≡ Some row → row.config.retention ≡ None → find (has_name name) s.subscriptions ≡ None
+    → IsCarried at (CreateSubscription name topic config) s (recorded_at at (add_subscription name row.number config s)) (Subscription (sub_shown (seen s) (sub_row (new_subscription s.next_sub name row.number config)))) true
+sub-made at name topic config s h row steady room good there window new =
     let made : State = add_subscription name row.number config s in
-    let steady : IsSteady (recorded_at at made) = subscription-steady name row.number config (recorded_at at s) (recorded-steady s h room at later within) (omega (arith, h.subs_few)) (sub-default config built) in
-    let named : topic_name (seen s) row.number ≡ Some topic = ap (option_map (λ (r : TopicRow). r.name)) numbered ∙ ap Some (exact-bytes.one row.name topic found.1) in
-    let window : window_of (seen s) row.number ≡ None = ap (option_and_then (λ (r : TopicRow). r.config.retention)) numbered ∙ ap (λ (c : TopicConfig). c.retention) settings in
-    let reply : Reply = Subscription (record { name = name; topic = Some topic; config = config; detached = false; topic_retention = None }) in
-    let told : Subscription (record { name = name; topic = topic_name (seen s) row.number; config = config; detached = false; topic_retention = window_of (seen s) row.number }) ≡ reply =
-    λ i. Subscription (record { name = name; topic = named i; config = config; detached = false; topic_retention = window i }) in
-    carried-left at (CreateSubscription name topic config) s made reply (answers (seen made) reply)
-    (sub-there at name topic config s room built place d there ∙ ap (create_sub_named (seen s) at name row config None) (unnamed-seen s name new) ∙ λ i. answers (subscription-seen at name row config s settings i) (told i)) refl
-    (made-finished at (seen s) made reply steady) (subscription-moves name row.number config s) refl
+    let reply = Subscription (sub_shown (seen s) (sub_row (new_subscription s.next_sub name row.number config))) in
+    carried-left at (CreateSubscription name topic config) s made reply (seen made) h steady
+    (sub-there at name topic config s room good row there ∙ ap (λ (o : Option KeptSubscription). create_sub_named (seen s) at name row config None (option_map sub_row o)) new
+    ∙ ap (λ (w : World). answers w reply) (subscription-seen at name row config s window))
+    (live-recorded at made steady) (subscription-moves name row.number config s) refl

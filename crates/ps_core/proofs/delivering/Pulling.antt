@@ -1,125 +1,180 @@
 -- A pull is carried out as the rules say.
-use Rattle.std.proofs.Common.{◌≡◌, ◌≢◌, ◌+◌, ◌*◌, ◌^◌, ◌<◌, ◌≤◌, ℕ, nat_le, Bool, true, false, List, [], ◌∷◌, Option, Some, None, unwrap_or, map, get_or, refl, sym, ap, subst, ◌∙◌, arith}
-use Rattle.std.proofs.lemmas.Bool.{and_parts, leb-true, ne_eqb}
+use Rattle.std.proofs.Common.{◌≡◌, ◌≢◌, ◌+◌, ◌-◌, ◌*◌, ◌^◌, ◌<◌, ◌≤◌, ◌||◌, ℕ, min, max, nat_cmp, nat_eq, Bool, true, false, List, [], ◌∷◌, Option, Some, None, option_map, unwrap_or, map, find, length, refl, sym, ap, subst, ◌∙◌, arith, if◌then◌else◌}
+use Rattle.std.specs.BTreeMap.{is_at, values}
+use Rattle.std.specs.Map.{set_value, values_of}
+use Rattle.std.proofs.lemmas.Bool.{eqb-false, ne_eqb}
 use Rattle.ps_base.specs.Moments.{last_moment}
-use Rattle.ps_base.specs.declared.reason.Reason.TheVariants.{MaxMessages}
-use Rattle.ps_base.specs.declared.refusal.Refusal.TheVariants.{NotFound}
+use Rattle.ps_base.specs.declared.reason.Reason.TheVariants.{Detached, MaxMessages}
+use Rattle.ps_base.specs.declared.refusal.Refusal.TheVariants.{FailedPrecondition, NotFound}
+use Rattle.ps_config.specs.declared.config.SubConfig.{SubConfig}
 use Rattle.ps_message.specs.Messages.{broken}
 use Rattle.ps_model.specs.declared.command.Command.{Command}
 use Rattle.ps_model.specs.declared.command.Command.TheVariants.{Pull}
-use Rattle.ps_config.specs.declared.config.SubConfig.{SubConfig}
 use Rattle.ps_model.specs.declared.mark.Handed.{Handed}
+use Rattle.ps_model.specs.declared.mark.Mark.{Mark}
+use Rattle.ps_model.specs.declared.mark.Slot.{Slot}
 use Rattle.ps_model.specs.declared.reply.ReceivedMessage.{ReceivedMessage}
 use Rattle.ps_model.specs.declared.reply.Reply.{Reply}
 use Rattle.ps_model.specs.declared.reply.Reply.TheVariants.{Received, Refused}
 use Rattle.ps_model.specs.declared.world.MessageRow.{MessageRow}
-use Rattle.ps_model.specs.Checks.{argument_fault}
+use Rattle.ps_model.specs.declared.world.SubRow.{SubRow}
+use Rattle.ps_model.specs.Checks.{argument_fault, as_read}
+use Rattle.ps_model.specs.Choice.{deliverable, first_of_them, handed, lease_in, leased_as, lent_mark}
 use Rattle.ps_model.specs.Commands.{outcome}
-use Rattle.ps_model.specs.Outcomes.{Shows, answers}
-use Rattle.ps_model.specs.Same.{same_world}
+use Rattle.ps_model.specs.Outcomes.{answers}
 use Rattle.ps_model.specs.Pulling.{pull_at, pull_from, received}
 use Rattle.ps_model.specs.Worlds.{message_at}
 use Rattle.ps_core.specs.declared.kept_subscription.KeptSubscription.{KeptSubscription}
+use Rattle.ps_core.specs.declared.tables.Tables.{Tables}
 use Rattle.ps_core.specs.Carrying.{IsCarried}
-use Rattle.ps_core.specs.Calls.{is_lease_normal, is_normal}
 use Rattle.ps_core.specs.Delivering.{received_all}
-use Rattle.ps_core.specs.Effects.{given_of, lend_subscription, put_subscription, recorded_at}
-use Rattle.ps_core.specs.Keeping.{IsKept, subscription_place}
+use Rattle.ps_core.specs.Effects.{given_of, lend_subscription, recorded_at}
+use Rattle.ps_core.specs.Keeping.{has_name, IsKept, numbered}
 use Rattle.ps_core.specs.State.{State, seen, sub_row}
-use Rattle.ps_core.specs.Steady.{IsSteady}
+use Rattle.ps_core.specs.Steady.{IsPlainMark, IsSteady, IsSteadySubscription}
+use Rattle.ps_core.proofs.carrying.Kept.{IsSubscriptionAt, sub-named-seen, subscription-nowhere}
 use Rattle.ps_core.proofs.carrying.Outcomes.{carried-left, carried-rests, carried-shown, finished-seen, outcome-open}
-use Rattle.ps_core.proofs.delivering.Kept.{kept-put, recorded-finished}
-use Rattle.ps_core.proofs.delivering.Moving.{pulled-moves, pulled-none_before, pulled-rests}
-use Rattle.ps_core.proofs.delivering.Seen.{named-seen, named-within, pulled-leaves, subscription-at, unnamed-seen}
-use Rattle.ps_core.proofs.delivering.Steady.{pulled-steady}
+use Rattle.ps_core.proofs.checking.Faults.{plainly}
+use Rattle.ps_core.proofs.delivering.Marked.{marked-steady, StandsIn}
+use Rattle.ps_core.proofs.delivering.Moving.{lent-idle, lent-none, pulled-moves}
+use Rattle.ps_core.proofs.delivering.Seen.{lent_at, pulled-leaves, steady-there}
+use Rattle.ps_core.proofs.delivering.Written.{live-left, stands, unwritten, written, written-kept}
+use Rattle.ps_core.proofs.settling.Settings.{lease-seconds}
 
 pull-good : (name : List ℕ) (most budget : ℕ) (seconds : Option ℕ) → most ≢ 0 → argument_fault (Pull name most budget seconds) ≡ None
 pull-good name most budget seconds some = ap (λ (b : Bool). broken b MaxMessages) (ne_eqb most 0 some)
 
--- there is no subscription of this name
-pub pull-missing : (s : State) → s.count < 2 ^ 50 → (name : List ℕ) → subscription_place name s.subscriptions ≡ None → (at most budget : ℕ) (seconds : Option ℕ) → most ≢ 0
-    → IsCarried at (Pull name most budget seconds) s s (Refused (NotFound name)) false
-pull-missing s room name none at most budget seconds some =
-    let c : Command = Pull name most budget seconds in
-    let refused : outcome (seen s) at c ≡ Shows (Refused (NotFound name)) = outcome-open s at c room (pull-good name most budget seconds some) ∙ ap (pull_at (seen s) at name most budget seconds) (unnamed-seen s name none) in
-    carried-shown at c s (Refused (NotFound name)) refused
+-- ---- a pull in the form in which it is read
 
--- what a pull of a subscription with the default settings leaves and answers
-pull-open : (s : State) → IsSteady s → s.count < 2 ^ 50 → (name : List ℕ) (place : ℕ) (d : KeptSubscription) → subscription_place name s.subscriptions ≡ Some place → (at most budget : ℕ) (seconds : Option ℕ) → most ≢ 0
-    → let x = get_or s.subscriptions place d in
-    let given = given_of at most budget x in
-    outcome (seen s) at (Pull name most budget seconds) ≡ answers (seen (put_subscription place (lend_subscription (at + 1000 * unwrap_or seconds 10) given x) s)) (Received false false (received_all x.number s.messages given))
-pull-open s h room name place d found at most budget seconds some =
-    let x = get_or s.subscriptions place d in
-    let hp = named-within s name place d found in
-    let settings = (subscription-at s h place d hp).settings in
-    let given = given_of at most budget x in
-    let reply : SubConfig → Reply = λ config. Received config.exactly_once config.ordering (map (λ (g : Handed). received (record (sub_row x) { config = config }) g (message_at s.messages g.number)) given) in
-    outcome-open s at (Pull name most budget seconds) room (pull-good name most budget seconds some)
-    ∙ ap (pull_at (seen s) at name most budget seconds) (named-seen s name place d found)
-    ∙ ap (λ (config : SubConfig). pull_from (seen s) at (sub_row x) most budget (unwrap_or seconds config.ack_seconds) false) settings
-    ∙ pulled-leaves s h place d hp at most budget (unwrap_or seconds 10)
-    ∙ ap (λ (config : SubConfig). answers (seen (put_subscription place (lend_subscription (at + 1000 * unwrap_or seconds 10) given x) s)) (reply config)) settings
+most_in : Command → ℕ
+most_in (Pull name most budget seconds) = most
+most_in _ = 0
+
+seconds_in : ℕ → Command → ℕ
+seconds_in standard (Pull name most budget seconds) = unwrap_or seconds standard
+seconds_in standard _ = 0
+
+-- it asks for at most 1,000 messages
+pub pull-few : (name : List ℕ) (most budget : ℕ) (seconds : Option ℕ) → as_read (Pull name most budget seconds) ≡ Pull name most budget seconds → most ≤ 1000
+unfolding most_in
+pull-few name most budget seconds read = let same : min most 1000 ≡ most = ap most_in read in omega arith
+
+-- and for a lease of at most ten minutes
+read-short : (name : List ℕ) (most budget : ℕ) (seconds : Option ℕ) → as_read (Pull name most budget seconds) ≡ Pull name most budget seconds → (standard : ℕ) → standard ≤ 600 → unwrap_or seconds standard ≤ 600
+unfolding seconds_in
+read-short name most budget None read standard short = short
+read-short name most budget (Some seconds) read standard short = let same : max 10 (min seconds 600) ≡ seconds = ap (seconds_in standard) read in omega arith
+
+-- ---- what goes out
+
+-- no more than was asked for
+given-few : (lease most budget : ℕ) (slots : List Slot) → length (handed lease (first_of_them most budget slots)) ≤ most
+given-few lease most budget [] = omega arith
+given-few lease most budget (s ∷ ss) = by (nat_eq most 0) refl (nat_eq budget 0) (given-few (lease + 1) (most - 1) (budget - s.item.size) ss)
+  where
+    rest : List Slot
+    rest = first_of_them (most - 1) (budget - s.item.size) ss
+
+    by : (a : Bool) → nat_eq most 0 ≡ a → (b : Bool) → length (handed (lease + 1) rest) ≤ most - 1 → length (handed lease (if a || b then [] else s ∷ rest)) ≤ most
+    by true e b few = omega arith
+    by false e true few = omega arith
+    by false e false few = let some : most ≢ 0 = eqb-false most 0 e in omega arith
+
+leased-plain : (deadline : ℕ) (mark : Mark) (lease : Option ℕ) → IsPlainMark mark → IsPlainMark (leased_as deadline mark lease)
+leased-plain deadline mark None h = h
+leased-plain deadline mark (Some lease) h = tt
 
 none-received : (sub : ℕ) (messages : List MessageRow) (given : List Handed) → received_all sub messages given ≡ [] → given ≡ []
 none-received sub messages [] e = refl
 none-received sub messages (g ∷ gs) e = absurd (cc (e))
 
-lease-short : (seconds : Option ℕ) → is_lease_normal seconds ≡ true → unwrap_or seconds 10 ≤ 600
-lease-short None normal = omega arith
-lease-short (Some seconds) normal = let parts = and_parts (nat_le 10 seconds) (nat_le seconds 600) normal in leb-true seconds 600 parts.1
+module _ (s : State) (next_end : ℕ) (tables : Tables) (kept : IsKept s next_end tables) (own : s.subscriptions ≡ values tables.subscriptions) (room : s.count < 2 ^ 50) (name : List ℕ) (most budget : ℕ) (lasting : Option ℕ) (some : most ≢ 0) (at : ℕ) where
+  pull-at : (found : Option SubRow) → option_map sub_row (find (has_name name) s.subscriptions) ≡ found → outcome (seen s) at (Pull name most budget lasting) ≡ pull_at (seen s) at name most budget lasting found
+  pull-at found is = outcome-open s at (Pull name most budget lasting) room (pull-good name most budget lasting some) ∙ ap (pull_at (seen s) at name most budget lasting) (sub-named-seen s name ∙ is)
 
--- a pull in its recorded form asks for at most 1,000 messages and ten minutes
-pub pull-normal : (name : List ℕ) (most budget : ℕ) (seconds : Option ℕ) → is_normal (Pull name most budget seconds) ≡ true → (most ≤ 1000) × (unwrap_or seconds 10 ≤ 600)
-pull-normal name most budget seconds normal =
-    let parts = and_parts (nat_le most 1000) (is_lease_normal seconds) normal in
-    (leb-true most 1000 parts.0, lease-short seconds parts.1)
+  -- there is no subscription of this name
+  pub pull-missing : numbered tables.subscription_numbers name ≡ None → IsCarried at (Pull name most budget lasting) s s (Refused (NotFound name)) false
+  pull-missing none = carried-shown at (Pull name most budget lasting) s (Refused (NotFound name)) (pull-at None (ap (option_map sub_row) (subscription-nowhere s next_end tables kept name none)))
 
--- A pull that hands something out, in which x' is what becomes of the subscription x at its place.
-module _ (s : State) (room : s.count < 2 ^ 50) (name : List ℕ) (place : ℕ) (found : subscription_place name s.subscriptions ≡ Some place) (x : KeptSubscription) (here : x ≡ get_or s.subscriptions place x) where
-  pub pull-kept : (next_end : ℕ) (members : List (List ℕ)) (topic_at subscription_at : List ℕ → Option ℕ) → IsKept s next_end members topic_at subscription_at → (at most budget seconds : ℕ) → s.now ≤ at → at ≤ last_moment → most ≤ 1000 → seconds ≤ 600
-      → (x' : KeptSubscription) → x' ≡ lend_subscription (at + 1000 * seconds) (given_of at most budget x) x → (next : ℕ) → next ≤ next_end → next ≤ at + 1000 * seconds → IsKept (recorded_at at (put_subscription place x' s)) next members topic_at subscription_at
-  pull-kept next_end members topic_at subscription_at kept at most budget seconds later within few short x' is next before below =
-      let hp = named-within s name place x found in
-      let lend : KeptSubscription → KeptSubscription = λ y. lend_subscription (at + 1000 * seconds) (given_of at most budget y) y in
-      let own = get_or s.subscriptions place x in
-      subst (λ (y : KeptSubscription). IsKept (recorded_at at (put_subscription place y s)) next members topic_at subscription_at) (sym (is ∙ ap lend here))
-      (kept-put s next_end members topic_at subscription_at kept place x (lend own) hp (record { name = refl; topic = refl }) at next
-      (pulled-steady s kept.steady room at most budget seconds few short later within place x hp)
-      (pulled-none_before s place x hp (at + 1000 * seconds) next_end next (given_of at most budget own) before below kept.none_before))
+  -- there is one
+  module _ (n : ℕ) (x : KeptSubscription) (there : IsSubscriptionAt s tables name n x) where
+    stays : StandsIn s.subscriptions x
+    stays = stands s next_end tables kept own name n x there
 
-  pub pull-moved : IsSteady s → (at most budget : ℕ) (seconds : Option ℕ) → most ≢ 0 → (x' : KeptSubscription) → x' ≡ lend_subscription (at + 1000 * unwrap_or seconds 10) (given_of at most budget x) x → IsSteady (recorded_at at (put_subscription place x' s))
-      → (items : List ReceivedMessage) → items ≡ received_all x.number s.messages (given_of at most budget x) → items ≢ [] → IsCarried at (Pull name most budget seconds) s (recorded_at at (put_subscription place x' s)) (Received false false items) true
-  pull-moved h at most budget seconds some x' is steady items told went =
-      let c : Command = Pull name most budget seconds in
-      let made : State = put_subscription place x' s in
-      let deadline : ℕ = at + 1000 * unwrap_or seconds 10 in
-      let lend : KeptSubscription → KeptSubscription = λ y. lend_subscription deadline (given_of at most budget y) y in
-      let given = given_of at most budget (get_or s.subscriptions place x) in
-      let reply : Reply = Received false false items in
-      let other : x' ≡ lend (get_or s.subscriptions place x) = is ∙ ap lend here in
-      let shown : items ≡ received_all (get_or s.subscriptions place x).number s.messages given = told ∙ ap (λ (y : KeptSubscription). received_all y.number s.messages (given_of at most budget y)) here in
-      let left : outcome (seen s) at c ≡ answers (seen made) reply = pull-open s h room name place x found at most budget seconds some ∙ λ i. answers (seen (put_subscription place (sym other i) s)) (Received false false (sym shown i)) in
-      let moves : same_world (seen s) (seen made) ≡ false =
-      ap (λ (y : KeptSubscription). same_world (seen s) (seen (put_subscription place y s))) other
-      ∙ pulled-moves s place x (named-within s name place x found) deadline given (λ none. went (shown ∙ ap (received_all (get_or s.subscriptions place x).number s.messages) none)) in
-      carried-left at c s made reply (answers (seen made) reply) left refl (recorded-finished at (seen s) made reply steady) moves refl
+    pub pulled-steady : IsSteadySubscription s x
+    pulled-steady = steady-there s kept.steady x stays
 
-  -- one that hands out nothing
-  pub pull-rests : (at most budget deadline : ℕ) (x' : KeptSubscription) → x' ≡ lend_subscription deadline (given_of at most budget x) x → received_all x.number s.messages (given_of at most budget x) ≡ [] → put_subscription place x' s ≡ s
-  pull-rests at most budget deadline x' is none =
-      let given = given_of at most budget x in
-      ap (λ (y : KeptSubscription). put_subscription place y s) (is ∙ ap (λ (g : List Handed). lend_subscription deadline g x) (none-received x.number s.messages given none) ∙ ap (lend_subscription deadline []) here) ∙ pulled-rests s place x deadline
+    -- the numbers of its leases are far from their bound
+    pub pull-leases : x.sub.next_lease ≤ 2 ^ 61
+    pull-leases = omega (arith, pulled-steady.leases)
 
-  pub pull-rested : IsSteady s → (at most budget : ℕ) (seconds : Option ℕ) → most ≢ 0 → (items : List ReceivedMessage) → items ≡ received_all x.number s.messages (given_of at most budget x) → items ≡ []
-      → IsCarried at (Pull name most budget seconds) s s (Received false false items) false
-  pull-rested h at most budget seconds some items told none =
-      let c : Command = Pull name most budget seconds in
-      let deadline : ℕ = at + 1000 * unwrap_or seconds 10 in
-      let reply : Reply = Received false false items in
-      let own = get_or s.subscriptions place x in
-      let given = given_of at most budget own in
-      let shown : items ≡ received_all own.number s.messages given = told ∙ ap (λ (y : KeptSubscription). received_all y.number s.messages (given_of at most budget y)) here in
-      let same : put_subscription place (lend_subscription deadline given own) s ≡ s = ap (λ (g : List Handed). put_subscription place (lend_subscription deadline g own) s) (none-received own.number s.messages given (sym shown ∙ none)) ∙ pulled-rests s place x deadline in
-      let left : outcome (seen s) at c ≡ answers (seen s) reply = pull-open s h room name place x found at most budget seconds some ∙ λ i. answers (seen (same i)) (Received false false (sym shown i)) in
-      carried-rests at c s reply (answers (seen s) reply) left refl (finished-seen at (seen s) s reply h)
+    pull-from : outcome (seen s) at (Pull name most budget lasting) ≡ pull_from (seen s) at (sub_row x) most budget (unwrap_or lasting x.sub.config.ack_seconds) x.detached
+    pull-from = pull-at (Some (sub_row x)) (ap (option_map sub_row) there.named)
+
+    -- it is detached
+    pub pull-detached : x.detached ≡ true → IsCarried at (Pull name most budget lasting) s s (Refused (FailedPrecondition Detached)) false
+    pull-detached detached =
+        carried-shown at (Pull name most budget lasting) s (Refused (FailedPrecondition Detached))
+        (pull-from ∙ ap (pull_from (seen s) at (sub_row x) most budget (unwrap_or lasting x.sub.config.ack_seconds)) detached)
+
+    -- the lease lasts this many seconds
+    module _ (seconds : ℕ) (lasts : seconds ≡ unwrap_or lasting x.sub.config.ack_seconds) (attached : x.detached ≡ false) where
+      -- at most ten minutes
+      pub pull-short : as_read (Pull name most budget lasting) ≡ Pull name most budget lasting → seconds ≤ 600
+      pull-short read = omega (arith, lasts, read-short name most budget lasting read x.sub.config.ack_seconds (lease-seconds x.sub.config pulled-steady.settings.good).1)
+
+      abbrev given : List Handed
+      given = given_of at most budget x
+
+      abbrev made : State
+      made = record s { subscriptions = map (lent_at x (at + 1000 * seconds) given) s.subscriptions }
+
+      pull-open : outcome (seen s) at (Pull name most budget lasting) ≡ answers (seen made) (Received false false (received_all x.number s.messages given))
+      pull-open =
+          let plain = plainly x.sub.config pulled-steady.settings.built in
+          let reply : SubConfig → Reply = λ config. Received config.exactly_once config.ordering (map (λ (g : Handed). received (record (sub_row x) { config = config }) g (message_at s.messages g.number)) given) in
+          let shown : reply x.sub.config ≡ Received false false (received_all x.number s.messages given) =
+          λ i. Received (plain.exactly_once i) (plain.ordering i) (map (λ (g : Handed). received (record (sub_row x) { config = record x.sub.config { dead_letter = plain.dead_letter i } }) g (message_at s.messages g.number)) given) in
+          pull-from
+          ∙ (λ i. pull_from (seen s) at (sub_row x) most budget (sym lasts i) (attached i))
+          ∙ pulled-leaves s kept.steady x stays at most budget seconds ∙ ap (answers (seen made)) shown
+
+      pull-steady : most ≤ 1000 → s.now ≤ at → at ≤ last_moment → IsSteady (recorded_at at made)
+      pull-steady few later within =
+          let short : length given ≤ most = given-few x.sub.next_lease most budget (deliverable at x.sub.config.ordering x.sub.slots) in
+          marked-steady x.number (lent_mark (at + 1000 * seconds) given) (λ lease. lease + length given) s kept.steady room at later within
+          (λ slot plain. leased-plain (at + 1000 * seconds) slot.mark (lease_in given slot.item.number) plain) (λ lease below. omega (arith, below, short))
+
+      -- x' is what becomes of it
+      module _ (new : List (ℕ × KeptSubscription)) (x' : KeptSubscription) (put : new ≡ set_value (is_at (nat_cmp n)) tables.subscriptions.entries x') (is : x' ≡ lend_subscription (at + 1000 * seconds) given x) where
+        pull-written : values_of new ≡ made.subscriptions
+        pull-written = written s next_end tables kept own name n x there (lent_mark (at + 1000 * seconds) given) (λ lease. lease + length given) new x' put is
+
+        -- what is kept beside the state stays right
+        pub pull-kept : most ≤ 1000 → s.now ≤ at → at ≤ last_moment → (next : ℕ) → next ≤ next_end → next ≤ at + 1000 * seconds → (after : Tables) → after.subscriptions.entries ≡ new → after.topics ≡ tables.topics → after.topic_numbers ≡ tables.topic_numbers
+            → after.subscription_numbers ≡ tables.subscription_numbers → after.messages ≡ tables.messages → IsKept (recorded_at at (record s { subscriptions = values after.subscriptions })) next after
+        pull-kept few later within next before below after entries topics topic_numbers subscription_numbers messages =
+            written-kept s next_end tables kept own name n x there (lent_mark (at + 1000 * seconds) given) (λ lease. lease + length given) new x' put is at next after entries topics topic_numbers subscription_numbers messages
+            (pull-steady few later within) (lent-idle s x (at + 1000 * seconds) next_end next given before below kept.none_before)
+
+        -- something goes out
+        pub pull-moved : most ≤ 1000 → s.now ≤ at → at ≤ last_moment → (items : List ReceivedMessage) → items ≡ received_all x.number s.messages given → items ≢ []
+            → IsCarried at (Pull name most budget lasting) s (recorded_at at (record s { subscriptions = values_of new })) (Received false false items) true
+        pull-moved few later within items told went =
+            let reply : Reply = Received false false items in
+            let steady : IsSteady (recorded_at at made) = pull-steady few later within in
+            subst (λ (xs : List KeptSubscription). IsCarried at (Pull name most budget lasting) s (recorded_at at (record s { subscriptions = xs })) reply true) (sym pull-written)
+            (carried-left at (Pull name most budget lasting) s made reply (seen made) kept.steady steady (pull-open ∙ ap (λ (shown : List ReceivedMessage). answers (seen made) (Received false false shown)) (sym told)) (live-left at made steady)
+            (pulled-moves s kept.steady x stays (at + 1000 * seconds) given (λ none. went (told ∙ ap (received_all x.number s.messages) none))) refl)
+
+        -- nothing goes out
+        pub pull-rests : received_all x.number s.messages given ≡ [] → new ≡ tables.subscriptions.entries
+        pull-rests none =
+            unwritten s next_end tables kept own name n x there new x' put
+            (is ∙ ap (λ (g : List Handed). lend_subscription (at + 1000 * seconds) g x) (none-received x.number s.messages given none) ∙ lent-none (at + 1000 * seconds) x)
+
+        pub pull-rested : (items : List ReceivedMessage) → items ≡ received_all x.number s.messages given → items ≡ [] → IsCarried at (Pull name most budget lasting) s s (Received false false items) false
+        pull-rested items told none =
+            let reply : Reply = Received false false items in
+            let rests : made.subscriptions ≡ s.subscriptions = sym pull-written ∙ ap values_of (pull-rests (sym told ∙ none)) ∙ sym own in
+            carried-rests at (Pull name most budget lasting) s reply (answers (seen s) reply) (pull-open ∙ λ i. answers (seen (record s { subscriptions = rests i })) (Received false false (sym told i))) refl (finished-seen at (seen s) s reply kept.steady)

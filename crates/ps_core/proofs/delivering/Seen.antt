@@ -1,118 +1,102 @@
 -- What a pull and an acknowledgement of one subscription do to the world that a state stands for.
-use Rattle.std.proofs.Common.{ℕ, ◌≡◌, ◌+◌, ◌*◌, ◌<◌, false, List, [], Some, None, map, length, set, get_or, refl, sym, ◌∙◌, ap}
-use Rattle.std.specs.Prelude.{position}
-use Rattle.std.specs.Str.{bytes_eq}
-use Rattle.std.proofs.Math.Seq.{map-set_same}
-use Rattle.std.proofs.lemmas.List.Quantifiers.{position-Some}
+use Rattle.std.proofs.Common.{ℕ, ◌≡◌, ◌<◌, ◌+◌, ◌*◌, false, nat_eq, List, [], Some, map, length, refl, sym, ◌∙◌, ap}
+use Rattle.ps_model.specs.Sound.{Ordered}
 use Rattle.ps_base.specs.declared.ack_id.AckId.{AckId}
-use Rattle.ps_config.specs.declared.config.SubConfig.{SubConfig}
 use Rattle.ps_model.specs.declared.mark.Handed.{Handed}
 use Rattle.ps_model.specs.declared.mark.Mark.{Mark}
 use Rattle.ps_model.specs.declared.mark.Slot.{Slot}
 use Rattle.ps_model.specs.declared.mark.Ticket.{Ticket}
 use Rattle.ps_model.specs.declared.reply.Reply.TheVariants.{Acked, Received}
-use Rattle.ps_model.specs.declared.world.SubRow.{SubRow}
 use Rattle.ps_model.specs.declared.world.World.{World}
 use Rattle.ps_model.specs.Acknowledging.{mark_after_ack}
 use Rattle.ps_model.specs.Answering.{acknowledge_at, invalid_ids, tickets_of, unordered_ids}
 use Rattle.ps_model.specs.Choice.{choice, handed, lent_mark}
 use Rattle.ps_model.specs.Outcomes.{Outcome, answers}
 use Rattle.ps_model.specs.Pulling.{pull_from, received_all}
-use Rattle.ps_model.specs.Slots.{remarked}
-use Rattle.ps_model.specs.Worlds.{put_sub, remark_at, row_of, slot_of, slots_of, sub_named}
+use Rattle.ps_model.specs.Worlds.{put_sub, remark_at, row_of, rows_of, slot_of, slots_of}
 use Rattle.ps_core.specs.declared.kept_subscription.KeptSubscription.{KeptSubscription}
-use Rattle.ps_core.specs.Effects.{ack_subscription, given_of, lend_subscription, put_subscription}
+use Rattle.ps_core.specs.Effects.{given_of}
 use Rattle.ps_core.specs.State.{State, flat_marks, number_of, seen, slots_in, sub_row}
 use Rattle.ps_core.specs.Steady.{IsJoined, IsSteady, IsSteadySubscription}
-use Rattle.ps_base.proofs.Lists.{each-at, each-then, find-at, find-nowhere}
-use Rattle.ps_core.proofs.marks.Flat.{Joined, flat-set, rows-at, slots-at}
+use Rattle.ps_base.proofs.Lists.{each-found, each-then, map-unseen}
+use Rattle.ps_core.proofs.checking.Faults.{plainly}
+use Rattle.ps_core.proofs.delivering.Marked.{marked, marked_at, marked-either, marked-put, StandsIn}
+use Rattle.ps_core.proofs.marks.Flat.{flat-marked, Joined, slots-at}
 use Rattle.ps_core.proofs.marks.OnePlace.{subs-put}
+use Rattle.ps_core.proofs.settling.Passes.{found-all, IsFound}
 
--- the subscription at a place is as steady as all are
-pub subscription-at : (s : State) → IsSteady s → (place : ℕ) (d : KeptSubscription) → place < length s.subscriptions → IsSteadySubscription s (get_or s.subscriptions place d)
-subscription-at s h place d hp = each-at (IsSteadySubscription s) s.subscriptions place d hp h.each
+-- the subscription with this one's number after these went out of it
+abbrev pub lent_at : KeptSubscription → ℕ → List Handed → KeptSubscription → KeptSubscription
+lent_at x deadline given = marked_at x.number (lent_mark deadline given) (λ (lease : ℕ). lease + length given)
 
-joined-at : (s : State) → IsSteady s → (place : ℕ) (d : KeptSubscription) → place < length s.subscriptions → Joined s.messages (get_or s.subscriptions place d).number (get_or s.subscriptions place d).sub.slots
-joined-at s h place d hp =
-    let x = get_or s.subscriptions place d in
-    each-then (IsJoined s x) (λ (slot : Slot). slot_of s.messages (row_of x.number slot) ≡ slot) x.sub.slots (λ slot j. j.row) (subscription-at s h place d hp).joined
+-- and after these were acknowledged
+abbrev pub acked_at : KeptSubscription → List Ticket → KeptSubscription → KeptSubscription
+acked_at x tickets = marked_at x.number (mark_after_ack x.sub.config tickets x.sub.slots) (λ (lease : ℕ). lease)
 
--- the messages of the subscription at a place, in the world and in its subscription
-pub slots-seen : (s : State) → IsSteady s → (place : ℕ) (d : KeptSubscription) → place < length s.subscriptions → slots_of (seen s) (get_or s.subscriptions place d).number ≡ (get_or s.subscriptions place d).sub.slots
-slots-seen s h place d hp =
-    let x = get_or s.subscriptions place d in
-    ap (map (slot_of s.messages)) (rows-at number_of slots_in s.subscriptions place d hp h.subscriptions) ∙ slots-at s.messages x.number x.sub.slots (joined-at s h place d hp)
+-- the marks of a subscription that stands there
+pub rows-there : (xs : List KeptSubscription) → Ordered (λ (a b : KeptSubscription). a.number < b.number) xs → (x : KeptSubscription) → StandsIn xs x → rows_of (flat_marks xs) x.number ≡ map (row_of x.number) x.sub.slots
+rows-there xs up x there = (each-found (IsFound xs) (λ (y : KeptSubscription). nat_eq y.number x.number) xs x there (found-all xs up)).rows
 
--- the subscription of a name, by the place of its subscription
-pub named-seen : (s : State) (name : List ℕ) (place : ℕ) (d : KeptSubscription) → position (λ (x : KeptSubscription). bytes_eq x.name name) s.subscriptions ≡ Some place → sub_named (seen s) name ≡ Some (sub_row (get_or s.subscriptions place d))
-named-seen s name place d e = find-at sub_row (λ (r : SubRow). bytes_eq r.name name) s.subscriptions place d e
+rows-joined : (s : State) (x : KeptSubscription) → IsSteadySubscription s x → Joined s.messages x.number x.sub.slots
+rows-joined s x own = each-then (IsJoined s x) (λ (slot : Slot). slot_of s.messages (row_of x.number slot) ≡ slot) x.sub.slots (λ slot j. j.row) own.joined
 
-pub unnamed-seen : (s : State) (name : List ℕ) → position (λ (x : KeptSubscription). bytes_eq x.name name) s.subscriptions ≡ None → sub_named (seen s) name ≡ None
-unnamed-seen s name e = find-nowhere sub_row (λ (r : SubRow). bytes_eq r.name name) s.subscriptions e
+module _ (s : State) (h : IsSteady s) where
+  -- the marks of the world after a rule went over one subscription
+  marks-seen : (n : ℕ) (rule : Slot → Mark) (next : ℕ → ℕ) → (remark_at n rule (seen s)).marks ≡ flat_marks (map (marked_at n rule next) s.subscriptions)
+  marks-seen n rule next =
+      flat-marked number_of slots_in s.messages n rule (marked n rule next) (λ x. refl) (λ x. refl) s.subscriptions
+      (each-then (IsSteadySubscription s) (λ (x : KeptSubscription). Joined s.messages x.number x.sub.slots) s.subscriptions (rows-joined s) h.each)
 
--- a subscription that was found stands within the list
-pub named-within : (s : State) (name : List ℕ) (place : ℕ) (d : KeptSubscription) → position (λ (x : KeptSubscription). bytes_eq x.name name) s.subscriptions ≡ Some place → place < length s.subscriptions
-named-within s name place d e = (position-Some (λ (x : KeptSubscription). bytes_eq x.name name) s.subscriptions place d e).0
+  module _ (x : KeptSubscription) (there : StandsIn s.subscriptions x) where
+    -- it is as steady as all are
+    pub steady-there : IsSteadySubscription s x
+    steady-there = each-found (IsSteadySubscription s) (λ (y : KeptSubscription). nat_eq y.number x.number) s.subscriptions x there h.each
 
--- the subscription with marks by a rule, whose next lease is this
-abbrev pub marked_subscription : (Slot → Mark) → ℕ → KeptSubscription → KeptSubscription
-marked_subscription rule next x = record x { sub = record x.sub { slots = remarked rule x.sub.slots; next_lease = next } }
+    -- its messages, in the world and in its own list
+    pub slots-seen : slots_of (seen s) x.number ≡ x.sub.slots
+    slots-seen = ap (map (slot_of s.messages)) (rows-there s.subscriptions h.subscriptions x there) ∙ slots-at s.messages x.number x.sub.slots (rows-joined s x steady-there)
 
--- the marks of the world after a rule went over one subscription
-marks-seen : (s : State) → IsSteady s → (place : ℕ) (d : KeptSubscription) → place < length s.subscriptions → (rule : Slot → Mark) (next : ℕ)
-    → (remark_at (get_or s.subscriptions place d).number rule (seen s)).marks ≡ flat_marks (set s.subscriptions place (marked_subscription rule next (get_or s.subscriptions place d)))
-marks-seen s h place d hp rule next =
-    sym (flat-set number_of slots_in s.messages rule s.subscriptions place d (marked_subscription rule next (get_or s.subscriptions place d)) hp h.subscriptions (joined-at s h place d hp) refl refl)
+    -- the world after a pull
+    pub pulled-seen : (deadline : ℕ) (given : List Handed)
+        → put_sub (record (sub_row x) { next_lease = x.sub.next_lease + length given }) (remark_at x.number (lent_mark deadline given) (seen s)) ≡ seen (record s { subscriptions = map (lent_at x deadline given) s.subscriptions })
+    pulled-seen deadline given =
+        let rule : Slot → Mark = lent_mark deadline given in
+        let next : ℕ → ℕ = λ lease. lease + length given in
+        let subs = subs-put (marked x.number rule next x) s.subscriptions ∙ ap (map sub_row) (marked-put x.number rule next x refl s.subscriptions h.subscriptions there) in
+        let marks = marks-seen x.number rule next in
+        λ i. record (seen s) { subs = subs i; marks = marks i }
 
--- the world after a pull of the subscription at a place
-pub pulled-seen : (s : State) → IsSteady s → (place : ℕ) (d : KeptSubscription) → place < length s.subscriptions → (deadline : ℕ) (given : List Handed)
-    → let x = get_or s.subscriptions place d in
-    put_sub (record (sub_row x) { next_lease = x.sub.next_lease + length given }) (remark_at x.number (lent_mark deadline given) (seen s)) ≡ seen (put_subscription place (lend_subscription deadline given x) s)
-pulled-seen s h place d hp deadline given =
-    let x = get_or s.subscriptions place d in
-    let subs = subs-put s.subscriptions place d (lend_subscription deadline given x) hp h.subscriptions refl in
-    let marks = marks-seen s h place d hp (lent_mark deadline given) (x.sub.next_lease + length given) in
-    λ i. record (seen s) { subs = subs i; marks = marks i }
+    -- what a pull leaves and answers
+    pub pulled-leaves : (at most budget seconds : ℕ)
+        → let given = given_of at most budget x in
+        pull_from (seen s) at (sub_row x) most budget seconds false
+        ≡ answers (seen (record s { subscriptions = map (lent_at x (at + 1000 * seconds) given) s.subscriptions })) (Received x.sub.config.exactly_once x.sub.config.ordering (received_all (seen s) (sub_row x) given))
+    pulled-leaves at most budget seconds =
+        let reply = λ (given : List Handed). Received x.sub.config.exactly_once x.sub.config.ordering (received_all (seen s) (sub_row x) given) in
+        let pulled : List Handed → Outcome = λ given.
+        answers (put_sub (record (sub_row x) { next_lease = x.sub.next_lease + length given }) (remark_at x.number (lent_mark (at + 1000 * seconds) given) (seen s))) (reply given) in
+        ap (λ (slots : List Slot). pulled (handed x.sub.next_lease (choice at x.sub.config.ordering most budget slots))) slots-seen
+        ∙ ap (λ (w : World). answers w (reply (given_of at most budget x))) (pulled-seen (at + 1000 * seconds) (given_of at most budget x))
 
--- what a pull of the subscription at a place leaves and answers
-pub pulled-leaves : (s : State) → IsSteady s → (place : ℕ) (d : KeptSubscription) → place < length s.subscriptions → (at most budget seconds : ℕ)
-    → let x = get_or s.subscriptions place d in
-    let given = given_of at most budget x in
-    pull_from (seen s) at (sub_row x) most budget seconds false
-    ≡ answers (seen (put_subscription place (lend_subscription (at + 1000 * seconds) given x) s)) (Received x.sub.config.exactly_once x.sub.config.ordering (received_all (seen s) (sub_row x) given))
-pulled-leaves s h place d hp at most budget seconds =
-    let x = get_or s.subscriptions place d in
-    let reply = λ (given : List Handed). Received x.sub.config.exactly_once x.sub.config.ordering (received_all (seen s) (sub_row x) given) in
-    let pulled : List Handed → Outcome = λ given.
-    answers (put_sub (record (sub_row x) { next_lease = x.sub.next_lease + length given }) (remark_at x.number (lent_mark (at + 1000 * seconds) given) (seen s))) (reply given) in
-    ap (λ (slots : List Slot). pulled (handed x.sub.next_lease (choice at x.sub.config.ordering most budget slots))) (slots-seen s h place d hp)
-    ∙ ap (λ (w : World). answers w (reply (given_of at most budget x))) (pulled-seen s h place d hp (at + 1000 * seconds) (given_of at most budget x))
+    -- the world after an acknowledgement
+    pub acked-seen : (tickets : List Ticket) → remark_at x.number (mark_after_ack x.sub.config tickets (slots_of (seen s) x.number)) (seen s) ≡ seen (record s { subscriptions = map (acked_at x tickets) s.subscriptions })
+    acked-seen tickets =
+        let rule : Slot → Mark = mark_after_ack x.sub.config tickets x.sub.slots in
+        let subs = map-unseen sub_row (acked_at x tickets) s.subscriptions (λ y. marked-either x.number rule (λ lease. lease) (λ (z : KeptSubscription). sub_row z ≡ sub_row y) y refl refl) in
+        let marks = marks-seen x.number rule (λ lease. lease) in
+        let made : remark_at x.number rule (seen s) ≡ seen (record s { subscriptions = map (acked_at x tickets) s.subscriptions }) = λ i. record (seen s) { subs = sym subs i; marks = marks i } in
+        ap (λ (slots : List Slot). remark_at x.number (mark_after_ack x.sub.config tickets slots) (seen s)) slots-seen ∙ made
 
--- the world after the subscription at a place acknowledged
-pub acked-seen : (s : State) → IsSteady s → (place : ℕ) (d : KeptSubscription) → place < length s.subscriptions → (ids : List AckId)
-    → let x = get_or s.subscriptions place d in
-    remark_at x.number (mark_after_ack x.sub.config (tickets_of (sub_row x) ids) (slots_of (seen s) x.number)) (seen s) ≡ seen (put_subscription place (ack_subscription (tickets_of (sub_row x) ids) x) s)
-acked-seen s h place d hp ids =
-    let x = get_or s.subscriptions place d in
-    let tickets : List Ticket = tickets_of (sub_row x) ids in
-    let subs = map-set_same sub_row s.subscriptions place (ack_subscription tickets x) d refl in
-    let marks = marks-seen s h place d hp (mark_after_ack x.sub.config tickets x.sub.slots) x.sub.next_lease in
-    let made : remark_at x.number (mark_after_ack x.sub.config tickets x.sub.slots) (seen s) ≡ seen (put_subscription place (ack_subscription tickets x) s) = λ i. record (seen s) { subs = sym subs i; marks = marks i } in
-    ap (λ (slots : List Slot). remark_at x.number (mark_after_ack x.sub.config tickets slots) (seen s)) (slots-seen s h place d hp) ∙ made
+    -- outside exactly-once mode no id is told of
+    none-invalid : (slots : List Slot) (ids : List AckId) → invalid_ids (sub_row x) slots ids ≡ []
+    none-invalid slots ids = rw (plainly x.sub.config steady-there.settings.built).exactly_once refl
 
--- outside exactly-once mode no id is told of
-pub none-invalid : (s : State) → IsSteady s → (place : ℕ) (d : KeptSubscription) → place < length s.subscriptions → (slots : List Slot) (ids : List AckId) → invalid_ids (sub_row (get_or s.subscriptions place d)) slots ids ≡ []
-none-invalid s h place d hp slots ids = rw (ap (λ (c : SubConfig). c.exactly_once) (subscription-at s h place d hp).settings) refl
+    none-unordered : (slots : List Slot) (ids : List AckId) → unordered_ids (sub_row x) slots ids ≡ []
+    none-unordered slots ids = rw (plainly x.sub.config steady-there.settings.built).exactly_once refl
 
-pub none-unordered : (s : State) → IsSteady s → (place : ℕ) (d : KeptSubscription) → place < length s.subscriptions → (slots : List Slot) (ids : List AckId) → unordered_ids (sub_row (get_or s.subscriptions place d)) slots ids ≡ []
-none-unordered s h place d hp slots ids = rw (ap (λ (c : SubConfig). c.exactly_once) (subscription-at s h place d hp).settings) refl
-
--- what an acknowledgement of the subscription at a place leaves and answers
-pub acked-leaves : (s : State) → IsSteady s → (place : ℕ) (d : KeptSubscription) → place < length s.subscriptions → (name : List ℕ) (ids : List AckId)
-    → let x = get_or s.subscriptions place d in
-    acknowledge_at (seen s) name ids (Some (sub_row x)) ≡ answers (seen (put_subscription place (ack_subscription (tickets_of (sub_row x) ids) x) s)) (Acked false [] [])
-acked-leaves s h place d hp name ids =
-    let x = get_or s.subscriptions place d in
-    let slots : List Slot = slots_of (seen s) x.number in
-    λ i. answers (acked-seen s h place d hp ids i)
-    (Acked ((subscription-at s h place d hp).settings i).exactly_once (none-invalid s h place d hp slots ids i) (none-unordered s h place d hp slots ids i))
+    -- what an acknowledgement leaves and answers
+    pub acked-leaves : (name : List ℕ) (ids : List AckId) → acknowledge_at (seen s) name ids (Some (sub_row x)) ≡ answers (seen (record s { subscriptions = map (acked_at x (tickets_of (sub_row x) ids)) s.subscriptions })) (Acked false [] [])
+    acked-leaves name ids =
+        let slots : List Slot = slots_of (seen s) x.number in
+        let plain = plainly x.sub.config steady-there.settings.built in
+        λ i. answers (acked-seen (tickets_of (sub_row x) ids) i) (Acked (plain.exactly_once i) (none-invalid slots ids i) (none-unordered slots ids i))

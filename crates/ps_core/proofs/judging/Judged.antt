@@ -7,7 +7,7 @@ use Rattle.ps_model.specs.declared.command.Entry.{Entry}
 use Rattle.ps_model.specs.declared.reply.Reply.{Reply}
 use Rattle.ps_model.specs.declared.reply.Reply.TheVariants.{Refused}
 use Rattle.ps_model.specs.declared.world.World.{World}
-use Rattle.ps_model.specs.Checks.{as_read}
+use Rattle.ps_model.specs.Checks.{argument_fault, as_read}
 use Rattle.ps_model.specs.Commands.{carried}
 use Rattle.ps_model.specs.Step as rules
 use Rattle.ps_core.specs.Built.{unbuilt}
@@ -20,15 +20,15 @@ use Rattle.ps_core.proofs.judging.Changed.{judged-changed}
 use Rattle.ps_core.proofs.judging.Refused.{judged-refused}
 use Rattle.ps_core.proofs.judging.Rests.{judged-moved, judged-still}
 
-pub judged-any : (s made new : State) (now : ℕ) (c : Command) (told : Reply) (entry : Option Entry) (moved changed : Bool) → IsSteady s → s.count < 2 ^ 50 → unbuilt c ≡ None → (at : ℕ) → at ≡ rules.moment (seen s) now → IsCarried at (as_read c) (settle_state at s) made told changed
+pub judged-any : (s made new : State) (now : ℕ) (c : Command) (told : Reply) (entry : Option Entry) (moved changed : Bool) → IsSteady s → s.count < 2 ^ 50 → unbuilt c ≡ None → argument_fault (as_read c) ≡ None → (at : ℕ) → at ≡ rules.moment (seen s) now → IsCarried at (as_read c) (settle_state at s) made told changed
     → moved ≡ is_any_due at s → IsEntryFor at (as_read c) moved changed made new entry → IsJudged (seen s) now c told entry (seen new)
-judged-any s made new now c told entry moved true steady room built at is carried due for =
+judged-any s made new now c told entry moved true steady room built good at is carried due for =
     let one = for.changed_one refl in
-    rw (one.0, one.1) (judged-changed s made now c told steady room built at is carried)
-judged-any s made new now c told entry true false steady room built at is carried due for =
+    rw (one.0, one.1) (judged-changed s made now c told steady room built good at is carried)
+judged-any s made new now c told entry true false steady room built good at is carried due for =
     let one = for.moved_one refl refl in
     rw (one.0, one.1) (judged-moved s made now c told steady room built at is carried (sym due))
-judged-any s made new now c told entry false false steady room built at is carried due for =
+judged-any s made new now c told entry false false steady room built good at is carried due for =
     let one = for.still_one refl refl in
     rw (one.0, one.1) (judged-still s made now c told steady room built at is carried (sym due))
 

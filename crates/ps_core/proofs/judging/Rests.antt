@@ -9,6 +9,7 @@ use Rattle.ps_model.specs.declared.reply.Reply.TheVariants.{Empty}
 use Rattle.ps_model.specs.declared.world.World.{World}
 use Rattle.ps_model.specs.Checks.{as_read}
 use Rattle.ps_model.specs.Commands.{carried, is_full}
+use Rattle.ps_model.specs.Live.{live}
 use Rattle.ps_model.specs.Outcomes.{Shows, refuses}
 use Rattle.ps_model.specs.Same.{same_world}
 use Rattle.ps_model.specs.Step as rules
@@ -19,6 +20,8 @@ use Rattle.ps_core.specs.Steady.{IsSteady}
 use Rattle.ps_core.specs.Effects.{settle_state, is_any_due, recorded_at}
 use Rattle.ps_core.specs.Carrying.{IsCarried}
 use Rattle.ps_core.specs.Calls.{is_step, next, IsTicked, IsJudged}
+use Rattle.ps_core.proofs.carrying.Living.{live-seen}
+use Rattle.ps_core.proofs.settling.Ending.{settle-steady}
 use Rattle.ps_core.proofs.judging.Changed.{accepted, entry-open, test-seen, told-seen}
 use Rattle.ps_core.proofs.judging.Settled.{moment-again, not_full, settled-moves, settled-seen}
 use Rattle.ps_core.proofs.settling.Moving.{settle-rests}
@@ -59,9 +62,10 @@ tick-accepted s at steady room moment due made is =
     shown true = refl
     shown false = refl
 
-    left : record (rules.carried_out (seen s) at Tick) { now = at; count = s.count + 1 } ≡ seen (recorded_at at made)
+    left : live (record (rules.carried_out (seen s) at Tick) { now = at; count = s.count + 1 }) ≡ seen (recorded_at at made)
     left =
-        ap (λ (w : World). record w { now = at; count = s.count + 1 }) (shown (is_full (rules.settled at (seen s))) ∙ settled-seen at s steady room ∙ sym is)
+        ap (λ (w : World). live (record w { now = at; count = s.count + 1 })) (shown (is_full (rules.settled at (seen s))) ∙ settled-seen at s steady room)
+        ∙ ap (λ (w : World). record w { now = at; count = s.count + 1 }) (live-seen (settle_state at s) (settle-steady at s steady) ∙ sym is)
         ∙ ap (λ (n : ℕ). record (seen made) { now = at; count = n + 1 }) (sym (ap (λ (w : World). w.count) is))
 
 -- nothing is recorded, and the world is as it was

@@ -1,5 +1,5 @@
 -- New messages change the world, and no lease more is over.
-use Rattle.std.proofs.Common.{ℕ, ◌≡◌, ◌+◌, ◌<◌, Bool, true, false, ◌||◌, nat_eq, List, [], ◌∷◌, ◌++◌, map, length, refl, ◌∙◌, ap, arith, if◌then◌else◌}
+use Rattle.std.proofs.Common.{ℕ, ◌≡◌, ◌+◌, ◌<◌, Bool, true, false, ◌||◌, List, [], ◌∷◌, map, length, if◌then◌else◌, refl, ◌∙◌, ap, arith}
 use Rattle.std.specs.List.{list_any}
 use Rattle.std.proofs.lemmas.Bool.{false_from_ne_true}
 use Rattle.std.proofs.lemmas.List.Folds.{list_any-append}
@@ -11,7 +11,8 @@ use Rattle.ps_model.specs.Same.{same_world, WorldParts}
 use Rattle.ps_model.proofs.SameLemmas.{same-world}
 use Rattle.ps_core.specs.declared.kept_subscription.KeptSubscription.{KeptSubscription}
 use Rattle.ps_core.specs.State.{State, seen}
-use Rattle.ps_core.specs.Effects.{with_slots, slot_in, enter_subscription, add_published, is_any_due}
+use Rattle.ps_core.specs.Effects.{add_published, enter_subscription, is_any_due, is_attached, slot_in, wanted_of}
+use Rattle.ps_core.specs.Entering.{enter_wanted}
 use Rattle.ps_core.proofs.publishing.Rows.{rows-length}
 
 pub published-moves : (at topic : ℕ) (messages : List Message) (s : State) → 0 < length messages → same_world (seen s) (seen (add_published at topic messages s)) ≡ false
@@ -25,17 +26,17 @@ new-not-due : (moment : ℕ) (rows : List MessageRow) → list_any (is_due momen
 new-not-due moment [] = refl
 new-not-due moment (r ∷ rs) = new-not-due moment rs
 
-pub entered-due : (moment topic : ℕ) (rows : List MessageRow) (x : KeptSubscription) → list_any (is_due moment) (enter_subscription topic rows x).sub.slots ≡ list_any (is_due moment) x.sub.slots
-entered-due moment topic rows x = by (nat_eq x.topic topic)
+entered-due : (moment topic : ℕ) (rows : List MessageRow) (x : KeptSubscription) → list_any (is_due moment) (enter_subscription topic rows x).sub.slots ≡ list_any (is_due moment) x.sub.slots
+entered-due moment topic rows x = by (is_attached topic x)
   where
     none : (b : Bool) → (b || false) ≡ b
     none true = refl
     none false = refl
 
-    by : (b : Bool) → list_any (is_due moment) (if b then with_slots x (x.sub.slots ++ map slot_in rows) else x).sub.slots ≡ list_any (is_due moment) x.sub.slots
+    by : (b : Bool) → list_any (is_due moment) (if b then enter_wanted rows x else x).sub.slots ≡ list_any (is_due moment) x.sub.slots
     by true =
-        list_any-append (is_due moment) x.sub.slots (map slot_in rows)
-        ∙ ap (λ (b : Bool). list_any (is_due moment) x.sub.slots || b) (new-not-due moment rows)
+        list_any-append (is_due moment) x.sub.slots (map slot_in (wanted_of x rows))
+        ∙ ap (λ (b : Bool). list_any (is_due moment) x.sub.slots || b) (new-not-due moment (wanted_of x rows))
         ∙ none (list_any (is_due moment) x.sub.slots)
     by false = refl
 

@@ -1,10 +1,10 @@
 -- A publish is carried out as the rules say, and leaves what a core keeps beside its state right.
-use Rattle.std.proofs.Common.{◌≡◌, ◌<◌, ◌≤◌, ◌+◌, ◌^◌, ◌||◌, ℕ, zero, suc, Bool, true, false, not, nat_eq, nat_lt, List, [], ◌∷◌, ◌++◌, Option, Some, None, length, map, get_or, if◌then◌else◌, refl, sym, ap, subst, ◌∙◌, arith}
-use Rattle.std.specs.List.{AllByRecursion}
+use Rattle.std.proofs.Common.{◌≡◌, ◌<◌, ◌≤◌, ◌+◌, ◌^◌, ◌&&◌, ◌||◌, ℕ, Bool, true, false, cond, not, nat_eq, nat_lt, List, [], ◌∷◌, ◌++◌, Option, Some, None, option_map, length, map, filter, find, refl, sym, ap, subst, ◌∙◌, arith}
+use Rattle.std.specs.BTreeMap.{values}
+use Rattle.std.specs.List.{AllByRecursion, list_any}
 use Rattle.std.specs.Str.{bytes_eq}
-use Rattle.std.proofs.lemmas.Bool.{or_parts, ltb-false, cond_both}
-use Rattle.std.proofs.lemmas.List.{length-map, map-id}
-use Rattle.std.proofs.lemmas.List.Quantifiers.{position-Some}
+use Rattle.std.proofs.lemmas.Bool.{eq-eqb, or_left, or_parts, or_right, ltb-false}
+use Rattle.std.proofs.lemmas.List.{map-append}
 use Rattle.ps_base.specs.Moments.{last_moment}
 use Rattle.ps_base.specs.declared.reason.Reason.{Reason}
 use Rattle.ps_base.specs.declared.reason.Reason.TheVariants.{Messages, RequestSize}
@@ -13,63 +13,38 @@ use Rattle.ps_message.specs.Lists.{is_empty, total, first_of}
 use Rattle.ps_message.specs.Messages.{broken, bytes_of, all_message_checks, publish_fault}
 use Rattle.ps_message.specs.declared.message.Message.{Message}
 use Rattle.ps_model.specs.declared.command.Command.TheVariants.{Publish}
-use Rattle.ps_model.specs.declared.mark.Slot.{Slot}
 use Rattle.ps_model.specs.declared.reply.Reply.{Reply}
 use Rattle.ps_model.specs.declared.reply.Reply.TheVariants.{Published, Refused}
+use Rattle.ps_model.specs.declared.world.World.{World}
+use Rattle.ps_model.specs.declared.world.MarkRow.{MarkRow}
 use Rattle.ps_model.specs.declared.world.MessageRow.{MessageRow}
+use Rattle.ps_model.specs.declared.world.SubRow.{SubRow}
 use Rattle.ps_model.specs.declared.world.TopicRow.{TopicRow}
 use Rattle.ps_model.specs.Forwarding.{message_rows, add_messages}
-use Rattle.ps_model.specs.Outcomes.{Outcome, answers}
-use Rattle.ps_model.specs.Settling.{expunge_world}
-use Rattle.ps_model.specs.Step.{finished}
+use Rattle.ps_model.specs.Live.{live}
+use Rattle.ps_model.specs.Same.{same_world}
+use Rattle.ps_model.specs.Slots.{is_gone}
 use Rattle.ps_model.specs.Topics.{publish_at}
 use Rattle.ps_model.specs.Worlds.{topic_named}
 use Rattle.ps_core.specs.declared.kept_subscription.KeptSubscription.{KeptSubscription}
-use Rattle.ps_core.specs.declared.tables.Tables.{Tables}
+use Rattle.ps_core.specs.declared.tables.KeptMessage.{KeptMessage}
 use Rattle.ps_core.specs.declared.tables.KeptTopic.{KeptTopic}
+use Rattle.ps_core.specs.declared.tables.Tables.{Tables}
 use Rattle.ps_core.specs.Carrying.{IsCarried}
-use Rattle.ps_core.specs.Effects.{with_slots, enter_subscription, has_subscription, kept_if, add_published, recorded_at}
-use Rattle.ps_core.specs.Entering.{IsBefore, CanEnter, enter_one, enter_each, CanEnterEach}
-use Rattle.ps_core.specs.Keeping.{places_of, topic_place, the_row, the_subs, state_of, IsKept}
-use Rattle.ps_core.specs.State.{State, seen}
-use Rattle.ps_core.specs.Steady.{IsJoined, IsSteadySubscription, IsSteady}
-use Rattle.ps_base.proofs.Lists.{each-map, each-then, find-at, find-nowhere, map-alike}
-use Rattle.ps_core.proofs.carrying.Outcomes.{carried-left, carried-shown, outcome-open}
-use Rattle.ps_core.proofs.carrying.Kept.{IsSameResource, members-same, places-map, subscription_place-map}
-use Rattle.ps_core.proofs.publishing.Entering.{can-enter, can-enter-each, has-places, places-entered, slots-kept}
-use Rattle.ps_core.proofs.publishing.Had.{published-state}
+use Rattle.ps_core.specs.Effects.{add_published, enter_subscription, is_had, let_go, recorded_at}
+use Rattle.ps_core.specs.Entering.{CanPublish, IsBefore, IsPublished, IsReady, kept_by}
+use Rattle.ps_core.specs.Keeping.{HasMembers, IsCounted, IsKept, IsNumbered, attached_at, numbered, state_of, subscription_at, the_message, the_row}
+use Rattle.ps_core.specs.State.{State, flat_marks, number_of, seen, sub_row}
+use Rattle.ps_core.specs.Steady.{IsJoined, IsPlainMark, IsSteadySubscription, IsSteady}
+use Rattle.ps_base.proofs.Lists.{each-always, each-append, each-map, each-of-map, each-then}
+use Rattle.ps_core.proofs.carrying.Kept.{find-in-map}
+use Rattle.ps_core.proofs.carrying.Outcomes.{carried-made, carried-shown, outcome-open}
+use Rattle.ps_core.proofs.publishing.Had.{all-pass, counted-old, published-left}
 use Rattle.ps_core.proofs.publishing.Moving.{published-due, published-moves}
-use Rattle.ps_core.proofs.publishing.Rows.{add-seen, rows-length}
+use Rattle.ps_core.proofs.publishing.Rows.{rows-kept, rows-length}
 use Rattle.ps_core.proofs.publishing.Steady.{published-steady}
-use Rattle.ps_core.proofs.settling.Ending.{forward-none}
-use Rattle.ps_core.proofs.settling.Expunging.{IsPlain, expunge-kept, plain-steady}
-
-entered-kept : (kept : Bool) (topic : ℕ) (rows : List MessageRow) (x : KeptSubscription) → enter_subscription topic (map (kept_if kept) rows) x ≡ enter_subscription topic rows x
-entered-kept kept topic rows x = ap (λ (slots : List Slot). if nat_eq x.topic topic then with_slots x (x.sub.slots ++ slots) else x) (slots-kept kept rows)
-
--- whether they are kept or not, they entered the subscriptions of their topic
-pub published-subscriptions : (kept : Bool) (topic : ℕ) (rows : List MessageRow) (places : List ℕ) (subscriptions : List KeptSubscription) → places ≡ places_of topic subscriptions → enter_each (map (kept_if kept) rows) places subscriptions ≡ map (enter_subscription topic rows) subscriptions
-published-subscriptions kept topic rows places subscriptions right =
-    ap (λ (ps : List ℕ). enter_each (map (kept_if kept) rows) ps subscriptions) right
-    ∙ places-entered topic (map (kept_if kept) rows) [] subscriptions
-    ∙ map-alike (enter_subscription topic (map (kept_if kept) rows)) (enter_subscription topic rows) subscriptions (entered-kept kept topic rows)
-
-pub published-can : (kept : Bool) (topic first at : ℕ) (messages : List Message) (places : List ℕ) (subscriptions : List KeptSubscription) → places ≡ places_of topic subscriptions → at ≤ last_moment
-    → AllByRecursion (λ (x : KeptSubscription). AllByRecursion (IsBefore first at) x.sub.slots) subscriptions → CanEnterEach (map (kept_if kept) (message_rows topic first at messages)) places subscriptions
-published-can kept topic first at messages places subscriptions right within before =
-    let rows : List MessageRow = map (kept_if kept) (message_rows topic first at messages) in
-    subst (λ (ps : List ℕ). CanEnterEach rows ps subscriptions) (sym right)
-    (can-enter-each topic rows [] subscriptions
-    (each-then (λ (x : KeptSubscription). AllByRecursion (IsBefore first at) x.sub.slots) (λ (x : KeptSubscription). CanEnter rows x.sub.slots) subscriptions
-    (λ x h. can-enter kept topic first at messages x.sub.slots within h) before))
-
--- they are kept where their topic has a subscription
-pub published-rows : (kept : Bool) (topic : ℕ) (rows : List MessageRow) (places : List ℕ) (subscriptions : List KeptSubscription) → places ≡ places_of topic subscriptions → kept ≡ not (nat_eq (length places) 0) → map (kept_if kept) rows ≡ map (kept_if (has_subscription topic subscriptions)) rows
-published-rows kept topic rows places subscriptions right is =
-    ap (λ (k : Bool). map (kept_if k) rows) (is ∙ ap (λ (ps : List ℕ). not (nat_eq (length ps) 0)) right ∙ sym (has-places 0 topic subscriptions))
-
-pub subs-there : (topics : List KeptTopic) (place : ℕ) (subscriptions : List KeptSubscription) (x : KeptTopic) → x ≡ get_or topics place x → ((y : KeptTopic) → (get_or topics place y).subs.items ≡ places_of (get_or topics place y).row.number subscriptions) → x.subs.items ≡ places_of x.row.number subscriptions
-subs-there topics place subscriptions x is right = subst (λ (y : KeptTopic). y.subs.items ≡ places_of y.row.number subscriptions) (sym is) (right x)
+use Rattle.ps_core.proofs.publishing.World.{add-seen, subs-entered, with_published}
+use Rattle.ps_core.proofs.settling.Expunging.{IsPlain, marks-each, plain-here, plain-steady}
 
 -- ---- what a publish needs of the core
 
@@ -88,118 +63,153 @@ publish-few messages none =
         let parts = or_parts (is_empty messages) (nat_lt 1000 (length messages)) is in
         (some messages parts.0, ltb-false 1000 (length messages) parts.1)
 
--- all that there is comes before the new messages
-pub all-before : (at : ℕ) (s : State) → IsSteady s → s.now ≤ at → AllByRecursion (λ (x : KeptSubscription). AllByRecursion (IsBefore s.next_message at) x.sub.slots) s.subscriptions
-all-before at s h later =
-    each-then (IsSteadySubscription s) (λ (x : KeptSubscription). AllByRecursion (IsBefore s.next_message at) x.sub.slots) s.subscriptions
-    (λ x own. each-then (IsJoined s x) (IsBefore s.next_message at) x.sub.slots (λ slot j. record { number = j.number; publish = omega (arith, j.publish, later) }) own.joined) h.each
+-- what is kept beside the state lets messages enter
+pub can-publish : (first at now count next_topic next_sub next_message next_end : ℕ) (messages : List Message) (tables : Tables) → IsKept (state_of now count next_topic next_sub next_message tables) next_end tables
+    → first ≡ next_message → now ≤ at → at ≤ last_moment → count ≤ 2 ^ 50 → length messages ≤ 1000 → CanPublish first at messages tables
+can-publish first at now count next_topic next_sub next_message next_end messages tables kept next later within few short =
+    let s : State = state_of now count next_topic next_sub next_message tables in
+    record {
+      room = omega (arith, next, kept.steady.messages_few, few, short);
+      within = within;
+      topics = kept.topics;
+      members = kept.members;
+      subscriptions = kept.subscriptions;
+      ordered = kept.steady.subscriptions;
+      names = kept.steady.subscription_names;
+      ready = each-then (IsSteadySubscription s) (IsReady first at) (values tables.subscriptions)
+          (λ x h. record {
+            filter = h.filter;
+            slots = each-then (IsJoined s x) (IsBefore first at) x.sub.slots (λ slot j. record { number = omega (arith, next, j.number); publish = omega (arith, j.publish, later) }) h.joined;
+          }) kept.steady.each;
+      message_keys = kept.messages;
+      below = each-then (λ (x : KeptMessage). x.row.number < next_message) (λ (x : KeptMessage). x.row.number < first) (values tables.messages) (λ x h. omega (arith, h, next))
+          (each-of-map (λ (m : MessageRow). m.number < next_message) the_message (values tables.messages) kept.steady.messages_below);
+    }
 
--- the topic at a place has the places of its subscriptions
-pub subs-right : (topics : List KeptTopic) (subscriptions : List KeptSubscription) (place : ℕ) (x : KeptTopic) → place < length topics → map the_subs topics ≡ map (λ (r : TopicRow). places_of r.number subscriptions) (map the_row topics)
-    → (get_or topics place x).subs.items ≡ places_of (get_or topics place x).row.number subscriptions
-subs-right [] subscriptions place x within right = absurd (omega arith)
-subs-right (y ∷ ys) subscriptions zero x within right = cc (right)
-subs-right (y ∷ ys) subscriptions (suc place) x within right = subs-right ys subscriptions place x (omega arith) (cc (right))
+-- a topic with a name has its number
+pub topic-listed : (test : TopicRow → Bool) (topics : List KeptTopic) (r : TopicRow) → find test (map the_row topics) ≡ Some r → list_any (λ (x : KeptTopic). nat_eq x.row.number r.number) topics ≡ true
+topic-listed test [] r e = absurd (cc (e))
+topic-listed test (x ∷ xs) r e = by (test x.row) e (topic-listed test xs r)
+  where
+    rest : Bool
+    rest = list_any (λ (y : KeptTopic). nat_eq y.row.number r.number) xs
 
--- what the look-up of a name told, where names are found where they stand
-pub place-told : (name text : List ℕ) (look_up : List ℕ → Option ℕ) (topics : List TopicRow) (told is : Option ℕ) → ((other : List ℕ) → look_up other ≡ topic_place other topics) → text ≡ name → told ≡ look_up text → told ≡ is → topic_place name topics ≡ is
-place-told name text look_up topics told is right same found e = sym (right name) ∙ ap look_up (sym same) ∙ sym found ∙ e
-
-pub place-within : (name : List ℕ) (topics : List KeptTopic) (place : ℕ) → topic_place name (map the_row topics) ≡ Some place → place < length topics
-place-within name [] place e = absurd (cc (e))
-place-within name (y ∷ ys) place e =
-    let found = position-Some (λ (r : TopicRow). bytes_eq r.name name) (map the_row (y ∷ ys)) place y.row e in
-    omega (arith, found.0, length-map (y ∷ ys) the_row)
-
--- the member at a place
-pub there : {A : Type 0} (xs : List A) (i : ℕ) → i < length xs → A
-there [] i h = absurd (omega arith)
-there (x ∷ xs) zero h = x
-there (x ∷ xs) (suc i) h = there xs i (omega arith)
+    by : (b : Bool) → cond b (Some x.row) (find test (map the_row xs)) ≡ Some r → (find test (map the_row xs) ≡ Some r → rest ≡ true) → (nat_eq x.row.number r.number || rest) ≡ true
+    by true e' more = let same : x.row ≡ r = cc (e') in or_left (nat_eq x.row.number r.number) rest (eq-eqb x.row.number r.number (ap (λ (t : TopicRow). t.number) same))
+    by false e' more = or_right (nat_eq x.row.number r.number) rest (more e')
 
 -- ---- a topic that isn't there
 
-topic-nowhere : (s : State) (name : List ℕ) → topic_place name s.topics ≡ None → topic_named (seen s) name ≡ None
-topic-nowhere s name is =
-    subst (λ (rows : List TopicRow). topic_named (record (seen s) { topics = rows }) name ≡ None) (map-id s.topics)
-    (find-nowhere (λ (r : TopicRow). r) (λ (r : TopicRow). bytes_eq r.name name) s.topics is)
-
-pub publish-missing : (at : ℕ) (name : List ℕ) (messages : List Message) (s : State) → s.count < 2 ^ 50 → publish_fault messages ≡ None → topic_place name s.topics ≡ None → IsCarried at (Publish name messages) s s (Refused (NotFound name)) false
+pub publish-missing : (at : ℕ) (name : List ℕ) (messages : List Message) (s : State) → s.count < 2 ^ 50 → publish_fault messages ≡ None → topic_named (seen s) name ≡ None → IsCarried at (Publish name messages) s s (Refused (NotFound name)) false
 publish-missing at name messages s room fits nowhere =
-    carried-shown at (Publish name messages) s (Refused (NotFound name)) (outcome-open s at (Publish name messages) room fits ∙ ap (publish_at (seen s) at name messages) (topic-nowhere s name nowhere))
+    carried-shown at (Publish name messages) s (Refused (NotFound name)) (outcome-open s at (Publish name messages) room fits ∙ ap (publish_at (seen s) at name messages) nowhere)
 
 -- ---- a topic that is there
 
-row-at : (topics : List KeptTopic) (place : ℕ) (x : KeptTopic) → get_or (map the_row topics) place x.row ≡ (get_or topics place x).row
-row-at [] place x = refl
-row-at (y ∷ ys) zero x = refl
-row-at (y ∷ ys) (suc place) x = row-at ys place x
-
-pub topic-there : (s : State) (name : List ℕ) (topics : List KeptTopic) (place : ℕ) (x : KeptTopic) → s.topics ≡ map the_row topics → topic_place name s.topics ≡ Some place → topic_named (seen s) name ≡ Some (get_or topics place x).row
-topic-there s name topics place x rows found =
-    subst (λ (rs : List TopicRow). topic_named (record (seen s) { topics = rs }) name ≡ Some (get_or s.topics place x.row)) (map-id s.topics)
-    (find-at (λ (r : TopicRow). r) (λ (r : TopicRow). bytes_eq r.name name) s.topics place x.row found)
-    ∙ ap Some (ap (λ (rs : List TopicRow). get_or rs place x.row) rows ∙ row-at topics place x)
-
--- the world that a publish comes to
-publish-left : (at topic : ℕ) (messages : List Message) (s : State) (reply : Reply) → IsSteady s → IsSteady (recorded_at at (add_published at topic messages s))
-    → finished at (seen s) (answers (add_messages (message_rows topic s.next_message at messages) (seen s)) reply) ≡ seen (add_published at topic messages s)
-publish-left at topic messages s reply h after =
-    let rows : List MessageRow = message_rows topic s.next_message at messages in
-    let entered : State = record s { next_message = s.next_message + length rows; subscriptions = map (enter_subscription topic rows) s.subscriptions; messages = s.messages ++ rows } in
-    let plain : IsPlain entered = record { topic_settings = h.topic_settings; marks = (plain-steady (recorded_at at (add_published at topic messages s)) after).marks } in
-    ap (expunge_world at) (forward-none at (add_messages rows (seen s)) ∙ add-seen at topic messages s h) ∙ expunge-kept at entered plain ∙ ap seen (published-state at topic messages s h)
+-- nothing is gone where all messages are kept and all marks are plain
+live-plain : (s : State) → IsPlain s → AllByRecursion (λ (m : MessageRow). m.kept ≡ true) s.messages → live (seen s) ≡ seen s
+live-plain s plain kept =
+    let here : AllByRecursion (λ (r : MarkRow). not (is_gone r.mark) ≡ true) (flat_marks s.subscriptions) =
+    each-then (λ (r : MarkRow). IsPlainMark r.mark) (λ (r : MarkRow). not (is_gone r.mark) ≡ true) (flat_marks s.subscriptions) (λ r h. ap not (plain-here r.mark h)) (marks-each IsPlainMark s.subscriptions plain.marks) in
+    λ i. record (seen s) {
+      messages = all-pass (λ (m : MessageRow). m.kept) s.messages kept i;
+      marks = all-pass (λ (r : MarkRow). not (is_gone r.mark)) (flat_marks s.subscriptions) here i;
+    }
 
 pub publish-carried : (at : ℕ) (name : List ℕ) (messages : List Message) (s : State) (topic : TopicRow) → IsSteady s → s.count < 2 ^ 50 → s.now ≤ at → at ≤ last_moment → publish_fault messages ≡ None → topic_named (seen s) name ≡ Some topic
     → IsCarried at (Publish name messages) s (recorded_at at (add_published at topic.number messages s)) (Published s.next_message (length messages)) true
 publish-carried at name messages s topic h room later within fits named =
     let few = publish-few messages fits in
     let reply : Reply = Published s.next_message (length messages) in
-    let made : Outcome = answers (add_messages (message_rows topic.number s.next_message at messages) (seen s)) reply in
-    carried-left at (Publish name messages) s (add_published at topic.number messages s) reply made
+    let rows : List MessageRow = message_rows topic.number s.next_message at messages in
+    let made : State = with_published at topic.number messages s in
+    let w : World = add_messages rows (seen s) in
+    let left : let_go made ≡ add_published at topic.number messages s = published-left at topic.number messages s h in
+    let after : IsSteady (recorded_at at (add_published at topic.number messages s)) = published-steady at topic.number messages s h later within room few.1 in
+    let plain : IsPlain made = record { topic_settings = h.topic_settings; marks = (plain-steady (recorded_at at (add_published at topic.number messages s)) after).marks } in
+    let kept : AllByRecursion (λ (m : MessageRow). m.kept ≡ true) made.messages = each-append (λ (m : MessageRow). m.kept ≡ true) s.messages rows h.kept (rows-kept topic.number s.next_message at messages) in
+    subst (λ (v : State). IsCarried at (Publish name messages) s (recorded_at at v) reply true) left
+    (carried-made at (Publish name messages) s made reply w h plain
     (outcome-open s at (Publish name messages) room fits ∙ ap (publish_at (seen s) at name messages) named)
-    refl
-    (publish-left at topic.number messages s reply h (published-steady at topic.number messages s h later within room few.1))
-    (published-moves at topic.number messages s few.0)
-    refl
+    (ap live (add-seen at topic.number messages s h) ∙ live-plain made plain kept)
+    (ap (λ (v : State). same_world (seen s) (seen v)) left ∙ published-moves at topic.number messages s few.0)
+    refl)
 
 -- ---- what the core keeps beside its state
 
-entered-resource : (topic : ℕ) (rows : List MessageRow) (x : KeptSubscription) → IsSameResource (enter_subscription topic rows x) x
-entered-resource topic rows x = cond_both (nat_eq x.topic topic) (enter_one rows x) x (λ (y : KeptSubscription). IsSameResource y x) (λ e. record { name = refl; topic = refl }) (λ e. record { name = refl; topic = refl })
+-- names are looked up in the rows of subscriptions
+in-rows : (test : SubRow → Bool) (xs : List KeptSubscription) → option_map number_of (find (λ (x : KeptSubscription). test (sub_row x)) xs) ≡ option_map (λ (r : SubRow). r.number) (find test (map sub_row xs))
+in-rows test xs = by (find (λ (x : KeptSubscription). test (sub_row x)) xs) ∙ ap (option_map (λ (r : SubRow). r.number)) (sym (find-in-map sub_row test xs))
+  where
+    by : (o : Option KeptSubscription) → option_map number_of o ≡ option_map (λ (r : SubRow). r.number) (option_map sub_row o)
+    by None = refl
+    by (Some x) = refl
 
-pub kept-published : (at topic : ℕ) (messages : List Message) (s : State) (next_end : ℕ) (members : List (List ℕ)) (topic_at subscription_at : List ℕ → Option ℕ) → IsSteady (recorded_at at (add_published at topic messages s))
-    → IsKept (recorded_at at s) next_end members topic_at subscription_at → IsKept (recorded_at at (add_published at topic messages s)) next_end members topic_at subscription_at
-kept-published at topic messages s next_end members topic_at subscription_at steady kept =
-    let rows : List MessageRow = message_rows topic s.next_message at messages in
-    let enter : KeptSubscription → KeptSubscription = enter_subscription topic rows in
-    let same : (x : KeptSubscription) → IsSameResource (enter x) x = entered-resource topic rows in
+named-still : (topic : ℕ) (rows : List MessageRow) (test : SubRow → Bool) (xs : List KeptSubscription)
+    → option_map number_of (find (λ (x : KeptSubscription). test (sub_row x)) (map (enter_subscription topic rows) xs)) ≡ option_map number_of (find (λ (x : KeptSubscription). test (sub_row x)) xs)
+named-still topic rows test xs =
+    in-rows test (map (enter_subscription topic rows) xs) ∙ ap (λ (rs : List SubRow). option_map (λ (r : SubRow). r.number) (find test rs)) (subs-entered topic rows xs) ∙ sym (in-rows test xs)
+
+name-still : (topic : ℕ) (rows : List MessageRow) (name : List ℕ) (xs : List KeptSubscription) → subscription_at name (map (enter_subscription topic rows) xs) ≡ subscription_at name xs
+name-still topic rows name xs = named-still topic rows (λ (r : SubRow). bytes_eq r.name name) xs
+
+member-still : (topic number : ℕ) (rows : List MessageRow) (name : List ℕ) (xs : List KeptSubscription) → attached_at number name (map (enter_subscription topic rows) xs) ≡ attached_at number name xs
+member-still topic number rows name xs = named-still topic rows (λ (r : SubRow). bytes_eq r.name name && (nat_eq r.topic number && not r.detached)) xs
+
+-- the counts of messages that some subscription has
+counted-all : (at topic next : ℕ) (messages : List Message) (old new : List KeptMessage) (xs ys : List KeptSubscription) → AllByRecursion (λ (x : KeptMessage). x.row.number < next) old → AllByRecursion (IsCounted xs) old
+    → ys ≡ map (enter_subscription topic (message_rows topic next at messages)) xs → new ≡ old ++ map (kept_by ys) (filter (λ (m : MessageRow). is_had ys m.number) (message_rows topic next at messages)) → AllByRecursion (IsCounted ys) new
+counted-all at topic next messages old new xs ys below counted made kept =
+    let left : List MessageRow = filter (λ (m : MessageRow). is_had ys m.number) (message_rows topic next at messages) in
+    subst (AllByRecursion (IsCounted ys)) (sym kept)
+    (each-append (IsCounted ys) old (map (kept_by ys) left)
+    (subst (λ (zs : List KeptSubscription). AllByRecursion (IsCounted zs) old) (sym made) (counted-old at topic next messages xs old below counted))
+    (each-map (λ (m : MessageRow). m.number ≡ m.number) (IsCounted ys) (kept_by ys) left (λ m k. refl) (each-always (λ (m : MessageRow). m.number ≡ m.number) left (λ m. refl))))
+
+pub kept-published : (at topic now count next_topic next_sub next next_end : ℕ) (messages : List Message) (old new : Tables) → IsKept (state_of now count next_topic next_sub next old) next_end old
+    → IsSteady (add_published at topic messages (state_of now count next_topic next_sub next old)) → IsPublished next at topic messages old new
+    → IsKept (add_published at topic messages (state_of now count next_topic next_sub next old)) next_end new
+kept-published at topic now count next_topic next_sub next next_end messages old new kept steady p =
+    let s : State = state_of now count next_topic next_sub next old in
+    let rows : List MessageRow = message_rows topic next at messages in
+    let xs : List KeptSubscription = values old.subscriptions in
+    let ys : List KeptSubscription = map (enter_subscription topic rows) xs in
+    let below : AllByRecursion (λ (x : KeptMessage). x.row.number < next) (values old.messages) = each-of-map (λ (m : MessageRow). m.number < next) the_message (values old.messages) kept.steady.messages_below in
     record {
       steady = steady;
-      topic_places = kept.topic_places;
-      subscription_places = λ name. kept.subscription_places name ∙ sym (subscription_place-map enter same name s.subscriptions);
-      subs = kept.subs ∙ sym (members-same s.topics s.subscriptions (map enter s.subscriptions) (λ number. places-map enter same 0 number s.subscriptions));
-      made = each-map (λ (x : KeptSubscription). x.topic < s.next_topic) (λ (x : KeptSubscription). x.topic < s.next_topic) enter s.subscriptions (λ x below. subst (λ (n : ℕ). n < s.next_topic) (sym (same x).topic) below) kept.made;
+      topics = subst (λ m. IsNumbered (λ (x : KeptTopic). x.row.number) m.entries) (sym p.topics) kept.topics;
+      topic_numbers = λ name. ap (λ index. numbered index name) p.topic_numbers ∙ kept.topic_numbers name;
+      subscriptions = p.subscription_keys;
+      subscription_numbers = λ name. ap (λ index. numbered index name) p.subscription_numbers ∙ kept.subscription_numbers name ∙ sym (name-still topic rows name xs);
+      members = subst (λ m. AllByRecursion (HasMembers ys) (values m)) (sym p.topics)
+          (each-then (HasMembers xs) (HasMembers ys) (values old.topics) (λ t has name. has name ∙ sym (member-still topic t.row.number rows name xs)) kept.members);
+      messages = p.message_keys;
+      holders = subst (λ (zs : List KeptSubscription). AllByRecursion (IsCounted zs) (values new.messages)) p.subscriptions
+          (counted-all at topic next messages (values old.messages) (values new.messages) xs (values new.subscriptions) below kept.holders p.subscriptions p.kept);
       none_before = λ u before. published-due u at topic messages s ∙ kept.none_before u before;
     }
 
-pub kept-same : (s made : State) (next_end : ℕ) (members members' : List (List ℕ)) (topic_at topic_at' subscription_at subscription_at' : List ℕ → Option ℕ) → made ≡ s → members' ≡ members → topic_at' ≡ topic_at → subscription_at' ≡ subscription_at
-    → IsKept s next_end members topic_at subscription_at → IsKept made next_end members' topic_at' subscription_at'
-kept-same s made next_end members members' topic_at topic_at' subscription_at subscription_at' states places topics subscriptions kept =
-    subst (λ (p : State × List (List ℕ) × (List ℕ → Option ℕ) × (List ℕ → Option ℕ)). IsKept p.0 next_end p.1 p.2 p.3) (sym (λ i. (states i, places i, topics i, subscriptions i))) kept
+rows-of-kept : (ys : List KeptSubscription) (rows : List MessageRow) → map the_message (map (kept_by ys) rows) ≡ rows
+rows-of-kept ys [] = refl
+rows-of-kept ys (r ∷ rs) = ap (λ (more : List MessageRow). r ∷ more) (rows-of-kept ys rs)
 
 -- the state that the tables make which a publish left
-pub published-made : (at now count next_topic next_sub next_message first topic : ℕ) (messages : List Message) (old new : Tables) → first ≡ next_message → new.topics.items ≡ old.topics.items
-    → new.subscriptions.items ≡ map (enter_subscription topic (message_rows topic first at messages)) old.subscriptions.items
-    → new.messages.items ≡ old.messages.items ++ map (kept_if (has_subscription topic old.subscriptions.items)) (message_rows topic first at messages)
-    → state_of now count next_topic next_sub (next_message + length messages) new ≡ add_published at topic messages (state_of now count next_topic next_sub next_message old)
-published-made at now count next_topic next_sub next_message first topic messages old new next topics subscriptions rows = λ i. record {
-  now = now;
-  count = count;
-  next_topic = next_topic;
-  next_sub = next_sub;
-  next_message = next_message + sym (rows-length topic next_message at messages) i;
-  topics = map the_row (topics i);
-  subscriptions = (subscriptions ∙ ap (λ (n : ℕ). map (enter_subscription topic (message_rows topic n at messages)) old.subscriptions.items) next) i;
-  messages = (rows ∙ ap (λ (n : ℕ). old.messages.items ++ map (kept_if (has_subscription topic old.subscriptions.items)) (message_rows topic n at messages)) next) i;
-}
+pub published-made : (at topic now count next_topic next_sub next : ℕ) (messages : List Message) (old new : Tables) → IsPublished next at topic messages old new
+    → state_of now count next_topic next_sub (next + length messages) new ≡ add_published at topic messages (state_of now count next_topic next_sub next old)
+published-made at topic now count next_topic next_sub next messages old new p =
+    let rows : List MessageRow = message_rows topic next at messages in
+    let left : List KeptSubscription → List MessageRow = λ ys. filter (λ (m : MessageRow). is_had ys m.number) rows in
+    let kept : map the_message (values new.messages) ≡ map the_message (values old.messages) ++ left (map (enter_subscription topic rows) (values old.subscriptions)) =
+    ap (map the_message) p.kept ∙ map-append the_message (values old.messages) (map (kept_by (values new.subscriptions)) (left (values new.subscriptions)))
+    ∙ (λ i. map the_message (values old.messages) ++ rows-of-kept (values new.subscriptions) (left (values new.subscriptions)) i)
+    ∙ ap (λ (ys : List KeptSubscription). map the_message (values old.messages) ++ left ys) p.subscriptions in
+    λ i. record {
+      now = now;
+      count = count;
+      next_topic = next_topic;
+      next_sub = next_sub;
+      next_message = next + sym (rows-length topic next at messages) i;
+      topics = map the_row (values (p.topics i));
+      subscriptions = p.subscriptions i;
+      messages = kept i;
+    }

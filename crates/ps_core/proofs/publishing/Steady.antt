@@ -1,155 +1,215 @@
 -- A state with new messages is steady.
-use Rattle.std.proofs.Common.{ℕ, ◌≡◌, ◌+◌, ◌*◌, ◌^◌, ◌<◌, ◌≤◌, Bool, true, false, nat_eq, List, [], ◌++◌, Option, Some, unwrap_or, map, length, refl, sym, ◌∙◌, ap, subst, arith}
+use Rattle.ps_names.specs.Names.{is_sub_name}
+use Rattle.std.proofs.Common.{ℕ, ◌≡◌, ◌≢◌, ◌+◌, ◌*◌, ◌^◌, ◌<◌, ◌≤◌, Bool, true, false, ◌&&◌, not, nat_eq, List, [], ◌∷◌, ◌++◌, Option, Some, unwrap_or, map, filter, length, refl, sym, ◌∙◌, ap, subst, arith}
 use Rattle.std.specs.List.{AllByRecursion}
-use Rattle.std.proofs.lemmas.Bool.{cond_both, ne_eqb}
+use Rattle.std.proofs.lemmas.Bool.{and_parts, both_ways, cond_both, eq-eqb, ne_eqb}
 use Rattle.ps_base.specs.Moments.{last_moment}
 use Rattle.ps_message.specs.declared.message.Message.{Message}
+use Rattle.ps_message.specs.Limits.{most_messages}
 use Rattle.ps_model.specs.declared.mark.Slot.{Slot}
 use Rattle.ps_model.specs.declared.world.MessageRow.{MessageRow}
 use Rattle.ps_model.specs.Forwarding.{message_rows}
-use Rattle.ps_config.specs.Masks.{default_sub}
 use Rattle.ps_model.specs.Seeking.{fresh}
 use Rattle.ps_model.specs.Sound.{Ordered}
 use Rattle.ps_model.specs.Worlds.{item_at, message_numbered, no_message}
+use Rattle.ps_sub.specs.Showing.{has}
 use Rattle.ps_core.specs.declared.kept_subscription.KeptSubscription.{KeptSubscription}
 use Rattle.ps_core.specs.State.{State}
-use Rattle.ps_core.specs.Steady.{IsJoined, IsSteadySubscription, IsSteady, is_had}
-use Rattle.ps_core.specs.Effects.{with_slots, recorded_at, slot_in, enter_subscription, has_subscription, kept_if, add_published}
-use Rattle.ps_base.proofs.Lists.{each-append, each-both, each-map, each-then, find-behind, find-front, find-none}
+use Rattle.ps_core.specs.Steady.{HasGoodSettings, IsJoined, IsSteadySubscription, IsSteady}
+use Rattle.ps_core.specs.Effects.{add_published, enter_subscription, filter_of, is_attached, is_had, recorded_at, slot_in, wanted_of}
+use Rattle.ps_core.specs.Entering.{enter_wanted, is_wanted}
+use Rattle.ps_base.proofs.Lists.{each-append, each-both, each-filter, each-left, each-map, each-then, each-then-both, find-behind, find-front, find-none}
 use Rattle.ps_core.proofs.marks.Ordered.{ordered-append, ordered-map}
-use Rattle.ps_core.proofs.publishing.Had.{IsNew, had-new, had-still, rows-new, slots-below}
-use Rattle.ps_core.proofs.publishing.Rows.{new_slots, number-entered, rows-found, rows-from, rows-length, rows-ordered, rows-published, rows-to, slots-entered}
+use Rattle.ps_core.proofs.publishing.Had.{new-from, old-had, own-had, slots-below}
+use Rattle.ps_core.proofs.publishing.Holders.{rows-in}
+use Rattle.ps_core.proofs.publishing.Rows.{rows-from, rows-kept, rows-length, rows-ordered, rows-published, rows-to}
+use Rattle.ps_core.proofs.publishing.World.{new_slots, number-entered, slots-entered}
 
-message-old : (messages rows : List MessageRow) (kept : Bool) (next n : ℕ) → n < next → AllByRecursion (λ (m : MessageRow). next ≤ m.number) rows → message_numbered (messages ++ map (kept_if kept) rows) n ≡ message_numbered messages n
-message-old messages rows kept next n below from =
-    find-front (λ (m : MessageRow). nat_eq m.number n) messages (map (kept_if kept) rows)
-    (find-none (λ (m : MessageRow). nat_eq m.number n) (map (kept_if kept) rows)
-    (each-map (λ (m : MessageRow). next ≤ m.number) (λ (m : MessageRow). nat_eq m.number n ≡ false) (kept_if kept) rows (λ m k. ne_eqb m.number n (λ e. omega (arith, below, k, e))) from))
+-- ---- look-ups among the messages
 
-message-new : (messages rows : List MessageRow) (kept : Bool) (next n : ℕ) → next ≤ n → AllByRecursion (λ (m : MessageRow). m.number < next) messages → message_numbered (messages ++ map (kept_if kept) rows) n ≡ message_numbered (map (kept_if kept) rows) n
-message-new messages rows kept next n from below =
-    find-behind (λ (m : MessageRow). nat_eq m.number n) messages (map (kept_if kept) rows)
+message-old : (messages left : List MessageRow) (next n : ℕ) → n < next → AllByRecursion (λ (m : MessageRow). next ≤ m.number) left → message_numbered (messages ++ left) n ≡ message_numbered messages n
+message-old messages left next n below from =
+    find-front (λ (m : MessageRow). nat_eq m.number n) messages left
+    (find-none (λ (m : MessageRow). nat_eq m.number n) left
+    (each-then (λ (m : MessageRow). next ≤ m.number) (λ (m : MessageRow). nat_eq m.number n ≡ false) left (λ m k. ne_eqb m.number n (λ e. omega (arith, below, k, e))) from))
+
+message-new : (messages left : List MessageRow) (next n : ℕ) → next ≤ n → AllByRecursion (λ (m : MessageRow). m.number < next) messages → message_numbered (messages ++ left) n ≡ message_numbered left n
+message-new messages left next n from below =
+    find-behind (λ (m : MessageRow). nat_eq m.number n) messages left
     (each-then (λ (m : MessageRow). m.number < next) (λ (m : MessageRow). nat_eq m.number n ≡ false) messages (λ m k. ne_eqb m.number n (λ e. omega (arith, from, k, e))) below)
 
--- a slot of a message that was there
-joined-old : (at topic : ℕ) (messages : List Message) (s : State) (x y : KeptSubscription) (slot : Slot) → s.now ≤ at → IsJoined s x slot → IsJoined (recorded_at at (add_published at topic messages s)) y slot
-joined-old at topic messages s x y slot later h =
-    let rows : List MessageRow = message_rows topic s.next_message at messages in
-    record {
-      row =
-          ap (λ (found : Option MessageRow). record { item = item_at slot.item.number (unwrap_or found (no_message slot.item.number)); mark = slot.mark })
-          (message-old s.messages rows (has_subscription topic s.subscriptions) s.next_message slot.item.number h.number (rows-from topic s.next_message s.next_message at messages (omega arith)))
-          ∙ h.row;
-      number = omega (arith, h.number);
-      publish = omega (arith, h.publish, later);
-      plain = h.plain;
-    }
+-- each of the rows that passes is found by its number among those that pass
+passing-found : (test : MessageRow → Bool) (rows : List MessageRow) → Ordered (λ (a b : MessageRow). a.number < b.number) rows → AllByRecursion (λ (m : MessageRow). test m ≡ true → message_numbered (filter test rows) m.number ≡ Some m) rows
+passing-found test [] h = tt
+passing-found test (r ∷ rs) h = (
+  λ e. rw (e, eq-eqb r.number r.number refl) refl,
+  each-then-both (λ (m : MessageRow). r.number < m.number) (λ (m : MessageRow). test m ≡ true → message_numbered (filter test rs) m.number ≡ Some m) (λ (m : MessageRow). test m ≡ true → message_numbered (filter test (r ∷ rs)) m.number ≡ Some m) rs
+      (λ m above own e. let other : nat_eq r.number m.number ≡ false = ne_eqb r.number m.number (λ k. omega (arith, above, k)) in
+      cond_both (test r) (r ∷ filter test rs) (filter test rs) (λ (left : List MessageRow). message_numbered left m.number ≡ Some m) (λ _. rw (other) (own e)) (λ _. own e)) h.0 (passing-found test rs h.1),
+)
 
--- what a new message's row meets
-record IsRow (at next after : ℕ) (kept : Bool) (rows : List MessageRow) (m : MessageRow) : Type 0 where
-  from : next ≤ m.number
-  to : m.number < after
-  published : m.publish ≡ at
-  found : message_numbered (map (kept_if kept) rows) m.number ≡ Some (kept_if kept m)
+-- the rows that pass are in order
+ordered-left : (test : MessageRow → Bool) (rows : List MessageRow) → Ordered (λ (a b : MessageRow). a.number < b.number) rows → Ordered (λ (a b : MessageRow). a.number < b.number) (filter test rows)
+ordered-left test [] h = tt
+ordered-left test (r ∷ rs) h =
+    cond_both (test r) (r ∷ filter test rs) (filter test rs) (Ordered (λ (a b : MessageRow). a.number < b.number))
+    (λ e. (each-left (λ (m : MessageRow). r.number < m.number) test rs h.0, ordered-left test rs h.1)) (λ e. ordered-left test rs h.1)
 
-rows-are : (at topic next : ℕ) (messages : List Message) (kept : Bool)
-    → AllByRecursion (IsRow at next (next + length (message_rows topic next at messages)) kept (message_rows topic next at messages)) (message_rows topic next at messages)
-rows-are at topic next messages kept =
-    let rows : List MessageRow = message_rows topic next at messages in
-    let after : ℕ = next + length rows in
-    each-then (λ (m : MessageRow). ((next ≤ m.number) × (m.number < after)) × ((m.publish ≡ at) × (message_numbered (map (kept_if kept) rows) m.number ≡ Some (kept_if kept m)))) (IsRow at next after kept rows) rows
-    (λ m k. record { from = k.0.0; to = k.0.1; published = k.1.0; found = k.1.1 })
-    (each-both _ _ rows
-    (each-both (λ (m : MessageRow). next ≤ m.number) (λ (m : MessageRow). m.number < after) rows (rows-from topic next next at messages (omega arith)) (rows-to topic after next at messages (omega (arith, rows-length topic next at messages))))
-    (each-both (λ (m : MessageRow). m.publish ≡ at) (λ (m : MessageRow). message_numbered (map (kept_if kept) rows) m.number ≡ Some (kept_if kept m)) rows (rows-published topic next at messages) (rows-found kept rows (rows-ordered topic next at messages))))
+-- ---- one publish
 
--- a slot of a new message
-joined-new : (at topic : ℕ) (messages : List Message) (s : State) (y : KeptSubscription) (m : MessageRow) → IsSteady s
-    → IsRow at s.next_message (s.next_message + length (message_rows topic s.next_message at messages)) (has_subscription topic s.subscriptions) (message_rows topic s.next_message at messages) m
-    → IsJoined (recorded_at at (add_published at topic messages s)) y (slot_in m)
-joined-new at topic messages s y m steady h =
-    let rows : List MessageRow = message_rows topic s.next_message at messages in
-    record {
-      row =
-          ap (λ (found : Option MessageRow). record { item = item_at m.number (unwrap_or found (no_message m.number)); mark = fresh })
-          (message-new s.messages rows (has_subscription topic s.subscriptions) s.next_message m.number h.from steady.messages_below ∙ h.found);
-      number = h.to;
-      publish = omega (arith, h.published);
-      plain = refl;
-    }
+module _ (at topic : ℕ) (messages : List Message) (s : State) (steady : IsSteady s) (later : s.now ≤ at) where
+  abbrev rows : List MessageRow
+  rows = message_rows topic s.next_message at messages
 
-subscription-steady : (at topic : ℕ) (messages : List Message) (s : State) (x : KeptSubscription) → IsSteady s → s.now ≤ at → IsSteadySubscription s x
-    → IsSteadySubscription (recorded_at at (add_published at topic messages s)) (enter_subscription topic (message_rows topic s.next_message at messages) x)
-subscription-steady at topic messages s x steady later h =
-    let rows : List MessageRow = message_rows topic s.next_message at messages in
-    let y : KeptSubscription = enter_subscription topic rows x in
-    let s' : State = recorded_at at (add_published at topic messages s) in
-    let after : ℕ = s.next_message + length rows in
-    let kept : Bool = has_subscription topic s.subscriptions in
-    let new : List Slot = new_slots topic rows x in
-    let are : AllByRecursion (IsRow at s.next_message after kept rows) rows = rows-are at topic s.next_message messages kept in
-    let Before : Slot → Slot → Type 0 = λ (a b : Slot). a.item.number < b.item.number in
-    let new_from : AllByRecursion (λ (b : Slot). s.next_message ≤ b.item.number) new =
-    cond_both (nat_eq x.topic topic) (map slot_in rows) [] (λ (slots : List Slot). AllByRecursion (λ (b : Slot). s.next_message ≤ b.item.number) slots)
-    (λ e. each-map (IsRow at s.next_message after kept rows) (λ (b : Slot). s.next_message ≤ b.item.number) slot_in rows (λ m k. k.from) are) (λ e. tt) in
-    let new_ordered : Ordered Before new =
-    cond_both (nat_eq x.topic topic) (map slot_in rows) [] (Ordered Before)
-    (λ e. ordered-map (λ (a b : MessageRow). a.number < b.number) Before slot_in rows (λ a b k. k) (rows-ordered topic s.next_message at messages)) (λ e. tt) in
-    let new_joined : AllByRecursion (IsJoined s' y) new =
-    cond_both (nat_eq x.topic topic) (map slot_in rows) [] (AllByRecursion (IsJoined s' y))
-    (λ e. each-map (IsRow at s.next_message after kept rows) (IsJoined s' y) slot_in rows (λ m k. joined-new at topic messages s y m steady k) are) (λ e. tt) in
-    let before : AllByRecursion (λ (a : Slot). AllByRecursion (Before a) new) x.sub.slots =
-    each-then (λ (a : Slot). a.item.number < s.next_message) (λ (a : Slot). AllByRecursion (Before a) new) x.sub.slots
-    (λ a k. each-then (λ (b : Slot). s.next_message ≤ b.item.number) (Before a) new (λ b l. omega (arith, k, l)) new_from) (slots-below s x h) in
-    record {
-      settings = cond_both (nat_eq x.topic topic) (with_slots x (x.sub.slots ++ map slot_in rows)) x (λ (z : KeptSubscription). z.sub.config ≡ default_sub) (λ e. h.settings) (λ e. h.settings);
-      leases = cond_both (nat_eq x.topic topic) (with_slots x (x.sub.slots ++ map slot_in rows)) x (λ (z : KeptSubscription). z.sub.next_lease ≤ 1000 * (s.count + 1) + 1) (λ e. omega (arith, h.leases)) (λ e. omega (arith, h.leases));
-      slots = subst (Ordered Before) (sym (slots-entered topic rows x)) (ordered-append Before x.sub.slots new h.slots new_ordered before);
-      joined = subst (AllByRecursion (IsJoined s' y)) (sym (slots-entered topic rows x))
-          (each-append (IsJoined s' y) x.sub.slots new (each-then (IsJoined s x) (IsJoined s' y) x.sub.slots (λ slot k. joined-old at topic messages s x y slot later k) h.joined) new_joined);
-    }
+  abbrev after : ℕ
+  after = s.next_message + length (message_rows topic s.next_message at messages)
 
-pub published-steady : (at topic : ℕ) (messages : List Message) (s : State) → IsSteady s → s.now ≤ at → at ≤ last_moment → s.count < 2 ^ 50 → length messages ≤ 1000 → IsSteady (recorded_at at (add_published at topic messages s))
-published-steady at topic messages s h later in_time room few =
-    let rows : List MessageRow = message_rows topic s.next_message at messages in
-    let many : length rows ≡ length messages = rows-length topic s.next_message at messages in
-    let after : ℕ = s.next_message + length rows in
-    let kept : Bool = has_subscription topic s.subscriptions in
-    let s' : State = recorded_at at (add_published at topic messages s) in
-    let are : AllByRecursion (IsRow at s.next_message after kept rows) rows = rows-are at topic s.next_message messages kept in
-    let enter : KeptSubscription → KeptSubscription = enter_subscription topic rows in
-    let Before : MessageRow → MessageRow → Type 0 = λ (a b : MessageRow). a.number < b.number in
-    let new_from : AllByRecursion (λ (b : MessageRow). s.next_message ≤ b.number) (map (kept_if kept) rows) =
-    each-map (IsRow at s.next_message after kept rows) (λ (b : MessageRow). s.next_message ≤ b.number) (kept_if kept) rows (λ m k. k.from) are in
-    record {
-      now = in_time;
-      count = omega arith;
-      topics = h.topics;
-      topics_below = h.topics_below;
-      topic_settings = h.topic_settings;
-      topics_few = omega (arith, h.topics_few);
-      subscriptions =
-          ordered-map (λ (a b : KeptSubscription). a.number < b.number) (λ (a b : KeptSubscription). a.number < b.number) enter s.subscriptions
-          (λ a b k. omega (arith, k, number-entered topic rows a, number-entered topic rows b)) h.subscriptions;
-      subscriptions_below =
-          each-map (λ (x : KeptSubscription). x.number < s.next_sub) (λ (x : KeptSubscription). x.number < s.next_sub) enter s.subscriptions
-          (λ x k. omega (arith, k, number-entered topic rows x)) h.subscriptions_below;
-      subs_few = omega (arith, h.subs_few);
-      each = each-map (IsSteadySubscription s) (IsSteadySubscription s') enter s.subscriptions (λ x k. subscription-steady at topic messages s x h later k) h.each;
-      messages =
-          ordered-append Before s.messages (map (kept_if kept) rows) h.messages
-          (ordered-map Before Before (kept_if kept) rows (λ a b k. k) (rows-ordered topic s.next_message at messages))
-          (each-then (λ (a : MessageRow). a.number < s.next_message) (λ (a : MessageRow). AllByRecursion (Before a) (map (kept_if kept) rows)) s.messages
-          (λ a k. each-then (λ (b : MessageRow). s.next_message ≤ b.number) (Before a) (map (kept_if kept) rows) (λ b l. omega (arith, k, l)) new_from) h.messages_below);
-      messages_below =
-          each-append (λ (m : MessageRow). m.number < after) s.messages (map (kept_if kept) rows)
-          (each-then (λ (m : MessageRow). m.number < s.next_message) (λ (m : MessageRow). m.number < after) s.messages (λ m k. omega (arith, k)) h.messages_below)
-          (each-map (IsRow at s.next_message after kept rows) (λ (m : MessageRow). m.number < after) (kept_if kept) rows (λ m k. k.to) are);
-      messages_few = omega (arith, h.messages_few, many, few);
-      wanted =
-          each-append (λ (m : MessageRow). m.kept ≡ true → is_had s'.subscriptions m.number ≡ true) s.messages (map (kept_if kept) rows)
-          (each-then (λ (m : MessageRow). m.kept ≡ true → is_had s.subscriptions m.number ≡ true) (λ (m : MessageRow). m.kept ≡ true → is_had s'.subscriptions m.number ≡ true) s.messages
-          (λ m k e. had-still topic rows m.number s.subscriptions (k e)) h.wanted)
-          (each-map (IsNew s.next_message rows) (λ (m : MessageRow). m.kept ≡ true → is_had s'.subscriptions m.number ≡ true) (kept_if kept) rows
-          (λ m k e. had-new topic rows m.number s h k.0 k.1 ∙ e) (rows-new topic s.next_message at messages));
-    }
+  abbrev made : State
+  made = recorded_at at (add_published at topic messages s)
+
+  abbrev left : List MessageRow
+  left = filter (λ (m : MessageRow). is_had (map (enter_subscription topic (message_rows topic s.next_message at messages)) s.subscriptions) m.number) (message_rows topic s.next_message at messages)
+
+  left-from : AllByRecursion (λ (m : MessageRow). s.next_message ≤ m.number) left
+  left-from = each-left (λ (m : MessageRow). s.next_message ≤ m.number) _ rows (rows-from topic s.next_message s.next_message at messages (omega arith))
+
+  -- a slot of a message that was there
+  joined-old : (x y : KeptSubscription) (slot : Slot) → IsJoined s x slot → IsJoined made y slot
+  joined-old x y slot h = record {
+    row =
+        ap (λ (found : Option MessageRow). record { item = item_at slot.item.number (unwrap_or found (no_message slot.item.number)); mark = slot.mark })
+        (message-old s.messages left s.next_message slot.item.number h.number left-from)
+        ∙ h.row;
+    number = omega (arith, h.number);
+    publish = omega (arith, h.publish, later);
+    plain = h.plain;
+  }
+
+  -- what a new message's row meets
+  record IsRow (x : KeptSubscription) (m : MessageRow) : Type 0 where
+    from : s.next_message ≤ m.number
+    to : m.number < after
+    published : m.publish ≡ at
+    found : is_had (map (enter_subscription topic rows) s.subscriptions) m.number ≡ true → message_numbered left m.number ≡ Some m
+    own : has (enter_subscription topic rows x).sub.slots m.number ≡ (is_attached topic x && is_wanted x m.message)
+
+  rows-are : (x : KeptSubscription) → IsSteadySubscription s x → AllByRecursion (IsRow x) rows
+  rows-are x h =
+      let had : MessageRow → Bool = λ m. is_had (map (enter_subscription topic rows) s.subscriptions) m.number in
+      let up = rows-ordered topic s.next_message at messages in
+      let from = rows-from topic s.next_message s.next_message at messages (omega arith) in
+      each-then (λ (m : MessageRow). ((s.next_message ≤ m.number) × (m.number < after)) × ((m.publish ≡ at) × ((had m ≡ true → message_numbered left m.number ≡ Some m) × (has (enter_subscription topic rows x).sub.slots m.number ≡ (is_attached topic x && is_wanted x m.message))))) (IsRow x) rows
+      (λ m k. record { from = k.0.0; to = k.0.1; published = k.1.0; found = k.1.1.0; own = k.1.1.1 })
+      (each-both _ _ rows
+      (each-both (λ (m : MessageRow). s.next_message ≤ m.number) (λ (m : MessageRow). m.number < after) rows from (rows-to topic after s.next_message at messages (omega (arith, rows-length topic s.next_message at messages))))
+      (each-both (λ (m : MessageRow). m.publish ≡ at) _ rows (rows-published topic s.next_message at messages)
+      (each-both (λ (m : MessageRow). had m ≡ true → message_numbered left m.number ≡ Some m) (λ (m : MessageRow). has (enter_subscription topic rows x).sub.slots m.number ≡ (is_attached topic x && is_wanted x m.message)) rows
+      (passing-found had rows up) (rows-in topic s.next_message rows x up from (slots-below s x h)))))
+
+  -- a slot of a new message
+  joined-new : (x y : KeptSubscription) (m : MessageRow) → IsRow x m → is_had (map (enter_subscription topic rows) s.subscriptions) m.number ≡ true → IsJoined made y (slot_in m)
+  joined-new x y m h had = record {
+    row =
+        ap (λ (found : Option MessageRow). record { item = item_at m.number (unwrap_or found (no_message m.number)); mark = fresh })
+        (message-new s.messages left s.next_message m.number h.from steady.messages_below ∙ h.found had);
+    number = h.to;
+    publish = omega (arith, h.published);
+    plain = refl;
+  }
+
+  -- the new slots of one subscription
+  record NewSlots (x y : KeptSubscription) (slots : List Slot) : Type 0 where
+    up : Ordered (λ (a b : Slot). a.item.number < b.item.number) slots
+    joined : AllByRecursion (IsJoined made y) slots
+
+  new-right : (x y : KeptSubscription) → IsSteadySubscription s x → ((n : ℕ) → has (enter_subscription topic rows x).sub.slots n ≡ true → is_had (map (enter_subscription topic rows) s.subscriptions) n ≡ true) → NewSlots x y (new_slots topic rows x)
+  new-right x y h own_had =
+      cond_both (is_attached topic x) (map slot_in (wanted_of x rows)) [] (NewSlots x y)
+      (λ e. record {
+        up = ordered-map (λ (a b : MessageRow). a.number < b.number) (λ (a b : Slot). a.item.number < b.item.number) slot_in (wanted_of x rows) (λ a b k. k) (ordered-left (λ (m : MessageRow). is_wanted x m.message) rows (rows-ordered topic s.next_message at messages));
+        joined = each-map (IsJoinedRow x y) (IsJoined made y) slot_in (wanted_of x rows) (λ m k. k)
+            (each-filter (IsRow x) (IsJoinedRow x y) (λ (m : MessageRow). is_wanted x m.message) rows
+            (λ m wanted k. let holds : (is_attached topic x && is_wanted x m.message) ≡ true = (λ i. e i && wanted i) in
+            joined-new x y m k (own_had m.number (k.own ∙ holds))) (rows-are x h));
+      })
+      (λ e. record { up = tt; joined = tt })
+    where
+      IsJoinedRow : KeptSubscription → KeptSubscription → MessageRow → Type 0
+      IsJoinedRow x y m = IsJoined made y (slot_in m)
+
+  abbrev entered : KeptSubscription → KeptSubscription
+  entered x = enter_subscription topic (message_rows topic s.next_message at messages) x
+
+  settings-rest : (P : KeptSubscription → Type 0) (x : KeptSubscription) → P x → P (enter_wanted rows x) → P (entered x)
+  settings-rest P x old new = cond_both (is_attached topic x) (enter_wanted rows x) x P (λ e. new) (λ e. old)
+
+  subscription-steady : (x : KeptSubscription) → IsSteadySubscription s x → ((n : ℕ) → has (entered x).sub.slots n ≡ true → is_had (map entered s.subscriptions) n ≡ true) → IsSteadySubscription made (entered x)
+  subscription-steady x h own_had =
+      let y : KeptSubscription = entered x in
+      let new : List Slot = new_slots topic rows x in
+      let Before : Slot → Slot → Type 0 = λ (a b : Slot). a.item.number < b.item.number in
+      let right : NewSlots x y new = new-right x y h own_had in
+      let before : AllByRecursion (λ (a : Slot). AllByRecursion (Before a) new) x.sub.slots =
+      each-then (λ (a : Slot). a.item.number < s.next_message) (λ (a : Slot). AllByRecursion (Before a) new) x.sub.slots
+      (λ a k. each-then (λ (b : Slot). s.next_message ≤ b.item.number) (Before a) new (λ b l. omega (arith, k, l)) (new-from topic s.next_message at messages x)) (slots-below s x h) in
+      let more : most_messages * s.count + 1 ≤ most_messages * (s.count + 1) + 1 = omega arith in
+      record {
+        settings = settings-rest (λ (z : KeptSubscription). HasGoodSettings z.sub.config) x h.settings h.settings;
+        filter = settings-rest (λ (z : KeptSubscription). z.filter ≡ filter_of z.sub.config.filter) x h.filter h.filter;
+        leases = settings-rest (λ (z : KeptSubscription). z.sub.next_lease ≤ most_messages * (s.count + 1) + 1) x (omega (arith, h.leases, more)) (omega (arith, h.leases, more));
+        slots = subst (Ordered Before) (sym (slots-entered topic rows x)) (ordered-append Before x.sub.slots new h.slots right.up before);
+        joined = subst (AllByRecursion (IsJoined made y)) (sym (slots-entered topic rows x))
+            (each-append (IsJoined made y) x.sub.slots new (each-then (IsJoined s x) (IsJoined made y) x.sub.slots (λ slot k. joined-old x y slot k) h.joined) right.joined);
+        detached =
+            cond_both (is_attached topic x) (enter_wanted rows x) x (λ (z : KeptSubscription). z.detached ≡ true → z.sub.slots ≡ [])
+            (λ e gone. absurd (both_ways (not x.detached) (ap not gone) ((and_parts (nat_eq x.topic topic) (not x.detached) e).1))) (λ e. h.detached);
+        topic = settings-rest (λ (z : KeptSubscription). z.topic < s.next_topic) x h.topic h.topic;
+      }
+
+  name-entered : (x : KeptSubscription) → (entered x).name ≡ x.name
+  name-entered x = settings-rest (λ (z : KeptSubscription). z.name ≡ x.name) x refl refl
+
+  pub published-steady : at ≤ last_moment → s.count < 2 ^ 50 → length messages ≤ 1000 → IsSteady (recorded_at at (add_published at topic messages s))
+  published-steady in_time room few =
+      let many : length rows ≡ length messages = rows-length topic s.next_message at messages in
+      let Before : MessageRow → MessageRow → Type 0 = λ (a b : MessageRow). a.number < b.number in
+      let more : most_messages * s.count + 1 + 1000 ≤ most_messages * (s.count + 1) + 1 = omega arith in
+      record {
+        now = in_time;
+        count = omega arith;
+        topics = steady.topics;
+        topics_below = steady.topics_below;
+        topic_names = steady.topic_names;
+        topic_grammar = steady.topic_grammar;
+        topic_settings = steady.topic_settings;
+        topics_few = omega (arith, steady.topics_few);
+        subscriptions =
+            ordered-map (λ (a b : KeptSubscription). a.number < b.number) (λ (a b : KeptSubscription). a.number < b.number) entered s.subscriptions
+            (λ a b k. omega (arith, k, number-entered topic rows a, number-entered topic rows b)) steady.subscriptions;
+        subscriptions_below =
+            each-map (λ (x : KeptSubscription). x.number < s.next_sub) (λ (x : KeptSubscription). x.number < s.next_sub) entered s.subscriptions
+            (λ x k. omega (arith, k, number-entered topic rows x)) steady.subscriptions_below;
+        subscription_names =
+            ordered-map (λ (a b : KeptSubscription). a.name ≢ b.name) (λ (a b : KeptSubscription). a.name ≢ b.name) entered s.subscriptions
+            (λ a b k e. k (sym (name-entered a) ∙ e ∙ name-entered b)) steady.subscription_names;
+        subscription_grammar = each-map (λ (x : KeptSubscription). is_sub_name x.name ≡ true) (λ (x : KeptSubscription). is_sub_name x.name ≡ true) entered s.subscriptions (λ x is. ap is_sub_name (name-entered x) ∙ is) steady.subscription_grammar;
+        subs_few = omega (arith, steady.subs_few);
+        each =
+            each-map (λ (x : KeptSubscription). IsSteadySubscription s x × ((n : ℕ) → has (entered x).sub.slots n ≡ true → is_had (map entered s.subscriptions) n ≡ true)) (IsSteadySubscription made) entered s.subscriptions
+            (λ x k. subscription-steady x k.0 k.1)
+            (each-both (IsSteadySubscription s) (λ (x : KeptSubscription). (n : ℕ) → has (entered x).sub.slots n ≡ true → is_had (map entered s.subscriptions) n ≡ true) s.subscriptions steady.each (own-had entered s.subscriptions));
+        messages =
+            ordered-append Before s.messages left steady.messages (ordered-left _ rows (rows-ordered topic s.next_message at messages))
+            (each-then (λ (a : MessageRow). a.number < s.next_message) (λ (a : MessageRow). AllByRecursion (Before a) left) s.messages
+            (λ a k. each-then (λ (b : MessageRow). s.next_message ≤ b.number) (Before a) left (λ b l. omega (arith, k, l)) left-from) steady.messages_below);
+        messages_below =
+            each-append (λ (m : MessageRow). m.number < after) s.messages left
+            (each-then (λ (m : MessageRow). m.number < s.next_message) (λ (m : MessageRow). m.number < after) s.messages (λ m k. omega (arith, k)) steady.messages_below)
+            (each-left (λ (m : MessageRow). m.number < after) _ rows (rows-to topic after s.next_message at messages (omega (arith, many))));
+        messages_few = omega (arith, steady.messages_few, many, few, more);
+        kept = each-append (λ (m : MessageRow). m.kept ≡ true) s.messages left steady.kept (each-left (λ (m : MessageRow). m.kept ≡ true) _ rows (rows-kept topic s.next_message at messages));
+        wanted =
+            each-append (λ (m : MessageRow). is_had (map entered s.subscriptions) m.number ≡ true) s.messages left
+            (old-had at topic messages s steady)
+            (each-filter (λ (m : MessageRow). m.publish ≡ at) (λ (m : MessageRow). is_had (map entered s.subscriptions) m.number ≡ true) (λ (m : MessageRow). is_had (map entered s.subscriptions) m.number) rows (λ m e k. e) (rows-published topic s.next_message at messages));
+      }

@@ -1,5 +1,5 @@
 -- While everything is held, expunging changes nothing.
-use Rattle.std.proofs.Common.{ℕ, ◌≡◌, Bool, true, false, ◌&&◌, ◌||◌, not, nat_eq, List, [], ◌∷◌, Option, Some, None, map, find, option_and_then, refl, ◌∙◌, ap}
+use Rattle.std.proofs.Common.{ℕ, ◌≡◌, Bool, true, false, ◌&&◌, ◌||◌, not, nat_eq, List, [], ◌∷◌, Option, Some, None, map, find, option_and_then, is_some, codes, if◌then◌else◌, refl, ◌∙◌, ap}
 use Rattle.std.specs.List.{AllByRecursion, list_any}
 use Rattle.std.proofs.Math.Bool.{and-true, or-false}
 use Rattle.std.proofs.lemmas.Bool.{or_right, and_right, cond_both}
@@ -13,7 +13,6 @@ use Rattle.ps_model.specs.declared.world.TopicRow.{TopicRow}
 use Rattle.ps_model.specs.declared.world.SubRow.{SubRow}
 use Rattle.ps_model.specs.declared.world.MessageRow.{MessageRow}
 use Rattle.ps_model.specs.declared.world.MarkRow.{MarkRow}
-use Rattle.ps_config.specs.Masks.{default_topic}
 use Rattle.ps_model.specs.Retention.{expired_mark, caught_up_mark, released_mark, caught_up_as, is_within}
 use Rattle.ps_model.specs.Settling.{expire, catch_up, release, is_wanted, let_go, expunge_world}
 use Rattle.ps_model.specs.Slots.{is_gone, is_done, is_unacked, any_earlier}
@@ -21,13 +20,15 @@ use Rattle.ps_model.specs.Worlds.{sub_numbered, slots_of, slot_of, row_of, new_m
 use Rattle.ps_sub.specs.Showing.{has}
 use Rattle.ps_core.specs.declared.kept_subscription.KeptSubscription.{KeptSubscription}
 use Rattle.ps_core.specs.State.{State, seen, flat_marks}
-use Rattle.ps_core.specs.Steady.{IsPlainMark, IsJoined, IsSteadySubscription, IsSteady, is_had}
-use Rattle.ps_base.proofs.Lists.{each-append, each-map, each-then, map-alike, map-rests}
+use Rattle.ps_core.specs.Built.{unbuilt_topic_setting}
+use Rattle.ps_core.specs.Effects.{is_had}
+use Rattle.ps_core.specs.Steady.{IsPlainMark, IsJoined, IsSteadySubscription, IsSteady}
+use Rattle.ps_base.proofs.Lists.{each-append, each-map, each-then, each-then-both, map-alike, map-rests}
 use Rattle.ps_core.proofs.settling.Passes.{pass-rests}
 
 -- what expunging reads of a state: settings of topics that keep nothing, and marks that are plain
 pub record IsPlain (s : State) : Type 0 where
-  pub topic_settings : AllByRecursion (λ (r : TopicRow). r.config ≡ default_topic) s.topics
+  pub topic_settings : AllByRecursion (λ (r : TopicRow). unbuilt_topic_setting r.config ≡ None) s.topics
   pub marks : AllByRecursion (λ (x : KeptSubscription). AllByRecursion (λ (slot : Slot). IsPlainMark slot.mark) x.sub.slots) s.subscriptions
 
 pub plain-steady : (s : State) → IsSteady s → IsPlain s
@@ -63,26 +64,26 @@ expire-rests at w = leaves-all (λ sub slots. expired_mark at sub.config (holds_
 pub release-rests : (at : ℕ) (w : World) → release at w ≡ w
 release-rests at w = leaves-all (λ sub slots. released_mark at sub.config (holds_of w sub.topic)) w (λ sub slots slot. rw (and_right (is_done slot.mark) false refl) refl)
 
-plain-caught_up : (m : Mark) → IsPlainMark m → caught_up_as m ≡ m
+pub plain-caught_up : (m : Mark) → IsPlainMark m → caught_up_as m ≡ m
 plain-caught_up (Backlog failures until last) h = refl
 plain-caught_up (Leased failures lease deadline) h = refl
 plain-caught_up (Ahead failures) h = absurd h
 plain-caught_up (Done cause) h = refl
 plain-caught_up (Gone cause) h = absurd h
 
--- nothing is ahead, so nothing catches up
-pub catch_up-rests : (w : World) → AllByRecursion (λ (r : MarkRow). IsPlainMark r.mark) w.marks → catch_up w ≡ w
+-- where nothing is ahead, nothing catches up
+pub catch_up-rests : (w : World) → AllByRecursion (λ (r : MarkRow). caught_up_as r.mark ≡ r.mark) w.marks → catch_up w ≡ w
 catch_up-rests w h =
     pass-rests (λ sub. caught_up_mark sub.config.ordering) w
-    (each-then (λ (r : MarkRow). IsPlainMark r.mark) (λ (r : MarkRow). new_mark (λ sub. caught_up_mark sub.config.ordering) w r (sub_numbered w r.sub) ≡ r.mark) w.marks (λ r plain. one r plain (sub_numbered w r.sub)) h)
+    (each-then (λ (r : MarkRow). caught_up_as r.mark ≡ r.mark) (λ (r : MarkRow). new_mark (λ sub. caught_up_mark sub.config.ordering) w r (sub_numbered w r.sub) ≡ r.mark) w.marks (λ r rests. one r rests (sub_numbered w r.sub)) h)
   where
-    one : (r : MarkRow) → IsPlainMark r.mark → (o : Option SubRow) → new_mark (λ sub. caught_up_mark sub.config.ordering) w r o ≡ r.mark
-    one r plain None = refl
-    one r plain (Some sub) =
+    one : (r : MarkRow) → caught_up_as r.mark ≡ r.mark → (o : Option SubRow) → new_mark (λ sub. caught_up_mark sub.config.ordering) w r o ≡ r.mark
+    one r rests None = refl
+    one r rests (Some sub) =
         cond_both (any_earlier sub.config.ordering (λ (e : Slot). is_unacked e.mark) (slots_of w sub.number) (slot_of w.messages r)) r.mark (caught_up_as r.mark) (λ (m : Mark). m ≡ r.mark)
-        (λ _. refl) (λ _. plain-caught_up r.mark plain)
+        (λ _. refl) (λ _. rests)
 
-plain-here : (m : Mark) → IsPlainMark m → is_gone m ≡ false
+pub plain-here : (m : Mark) → IsPlainMark m → is_gone m ≡ false
 plain-here (Backlog failures until last) h = refl
 plain-here (Leased failures lease deadline) h = refl
 plain-here (Ahead failures) h = refl
@@ -90,7 +91,7 @@ plain-here (Done cause) h = refl
 plain-here (Gone cause) h = absurd h
 
 -- a row of the message that isn't gone
-abbrev wants : ℕ → MarkRow → Bool
+abbrev pub wants : ℕ → MarkRow → Bool
 wants number m = nat_eq m.message number && not (is_gone m.mark)
 
 slots-want : (n number : ℕ) (slots : List Slot) → AllByRecursion (λ (slot : Slot). IsPlainMark slot.mark) slots → list_any (wants number) (map (row_of n) slots) ≡ has slots number
@@ -99,17 +100,25 @@ slots-want n number (slot ∷ slots) h =
     let first : wants number (row_of n slot) ≡ nat_eq slot.item.number number = ap (λ (gone : Bool). nat_eq slot.item.number number && not gone) (plain-here slot.mark h.0) ∙ and-true (nat_eq slot.item.number number) in
     λ i. first i || slots-want n number slots h.1 i
 
-marks-want : (number : ℕ) (xs : List KeptSubscription) → AllByRecursion (λ (x : KeptSubscription). AllByRecursion (λ (slot : Slot). IsPlainMark slot.mark) x.sub.slots) xs → list_any (wants number) (flat_marks xs) ≡ is_had xs number
+pub marks-want : (number : ℕ) (xs : List KeptSubscription) → AllByRecursion (λ (x : KeptSubscription). AllByRecursion (λ (slot : Slot). IsPlainMark slot.mark) x.sub.slots) xs → list_any (wants number) (flat_marks xs) ≡ is_had xs number
 marks-want number [] h = refl
 marks-want number (x ∷ xs) h =
     list_any-append (wants number) (map (row_of x.number) x.sub.slots) (flat_marks xs) ∙ λ i. slots-want x.number number x.sub.slots h.0 i || marks-want number xs h.1 i
 
-window-none : (number : ℕ) (topics : List TopicRow) → AllByRecursion (λ (r : TopicRow). r.config ≡ default_topic) topics
+-- a topic whose retention isn't built has none
+keeps-nothing : (c : TopicConfig) → unbuilt_topic_setting c ≡ None → c.retention ≡ None
+keeps-nothing c built = by c.retention built
+  where
+    by : (o : Option ℕ) → (if is_some o then Some (codes "messageRetentionDuration") else None) ≡ None → o ≡ None
+    by None e = refl
+    by (Some window) e = absurd (cc (e))
+
+pub window-none : (number : ℕ) (topics : List TopicRow) → AllByRecursion (λ (r : TopicRow). unbuilt_topic_setting r.config ≡ None) topics
     → option_and_then (λ (r : TopicRow). r.config.retention) (find (λ (r : TopicRow). nat_eq r.number number) topics) ≡ None
 window-none number [] h = refl
 window-none number (r ∷ topics) h =
     cond_both (nat_eq r.number number) (Some r) (find (λ (x : TopicRow). nat_eq x.number number) topics) (λ (o : Option TopicRow). option_and_then (λ (x : TopicRow). x.config.retention) o ≡ None)
-    (λ _. ap (λ (c : TopicConfig). c.retention) h.0) (λ _. window-none number topics h.1)
+    (λ _. keeps-nothing r.config h.0) (λ _. window-none number topics h.1)
 
 -- a message is wanted where some subscription has it
 pub wanted-had : (at : ℕ) (s : State) → IsPlain s → (m : MessageRow) → is_wanted at (flat_marks s.subscriptions) (holds_of (seen s) m.topic) m ≡ is_had s.subscriptions m.number
@@ -126,20 +135,16 @@ pub expunge-kept : (at : ℕ) (s : State) → IsPlain s
     → expunge_world at (seen s) ≡ seen (record s { messages = map (λ (m : MessageRow). record m { kept = m.kept && is_had s.subscriptions m.number }) s.messages })
 expunge-kept at s h =
     let rests : release at (catch_up (expire at (seen s))) ≡ seen s =
-    release-rests at (catch_up (expire at (seen s))) ∙ ap catch_up (expire-rests at (seen s)) ∙ catch_up-rests (seen s) (marks-each IsPlainMark s.subscriptions h.marks) in
+    release-rests at (catch_up (expire at (seen s))) ∙ ap catch_up (expire-rests at (seen s)) ∙ catch_up-rests (seen s) (each-then (λ (r : MarkRow). IsPlainMark r.mark) (λ (r : MarkRow). caught_up_as r.mark ≡ r.mark) (flat_marks s.subscriptions) (λ r plain. plain-caught_up r.mark plain) (marks-each IsPlainMark s.subscriptions h.marks)) in
     let kept : map (let_go at (seen s)) s.messages ≡ map (kept_where_had s.subscriptions) s.messages =
     map-alike (let_go at (seen s)) (kept_where_had s.subscriptions) s.messages (λ m. ap (λ (had : Bool). record m { kept = m.kept && had }) (wanted-had at s h m)) in
     ap (λ (w : World). record w { messages = map (let_go at w) w.messages }) rests ∙ λ i. record (seen s) { messages = kept i }
-
-pub and_same : (a b : Bool) → (a ≡ true → b ≡ true) → (a && b) ≡ a
-and_same true b h = h refl
-and_same false b h = refl
 
 -- While everything is held, nothing goes.
 pub expunge-seen : (at : ℕ) (s : State) → IsSteady s → expunge_world at (seen s) ≡ seen s
 expunge-seen at s h =
     let kept : map (kept_where_had s.subscriptions) s.messages ≡ s.messages =
     map-rests (kept_where_had s.subscriptions) s.messages
-    (each-then (λ (m : MessageRow). m.kept ≡ true → is_had s.subscriptions m.number ≡ true) (λ (m : MessageRow). kept_where_had s.subscriptions m ≡ m) s.messages
-    (λ m had. ap (λ (k : Bool). record m { kept = k }) (and_same m.kept (is_had s.subscriptions m.number) had)) h.wanted) in
+    (each-then-both (λ (m : MessageRow). m.kept ≡ true) (λ (m : MessageRow). is_had s.subscriptions m.number ≡ true) (λ (m : MessageRow). kept_where_had s.subscriptions m ≡ m) s.messages
+    (λ m kept had. ap (λ (k : Bool). record m { kept = k }) (rw (kept, had) refl)) h.kept h.wanted) in
     expunge-kept at s (plain-steady s h) ∙ λ i. seen (record s { messages = kept i })

@@ -20,12 +20,17 @@ use Rattle.ps_core.specs.declared.kept_subscription.KeptSubscription.{KeptSubscr
 use Rattle.ps_core.specs.State.{State, seen, flat_marks}
 use Rattle.ps_core.specs.Steady.{IsSteady}
 use Rattle.ps_core.specs.Effects.{with_slots, settle_subscription, settle_state, is_any_due}
+use Rattle.ps_core.specs.Settling.{has_due}
 
-rest-subscriptions : (at : ℕ) (xs : List KeptSubscription) → list_any (λ (x : KeptSubscription). list_any (is_due at) x.sub.slots) xs ≡ false → map (settle_subscription at) xs ≡ xs
+-- where no lease is over, the subscription stays
+pub rest-subscription : (at : ℕ) (x : KeptSubscription) → has_due at x ≡ false → settle_subscription at x ≡ x
+rest-subscription at x none = ap (with_slots x) (fail-rest at false x.sub.config x.sub.slots none)
+
+rest-subscriptions : (at : ℕ) (xs : List KeptSubscription) → list_any (has_due at) xs ≡ false → map (settle_subscription at) xs ≡ xs
 rest-subscriptions at [] h = refl
 rest-subscriptions at (x ∷ xs) h =
-    let p = or_parts (list_any (is_due at) x.sub.slots) (list_any (λ (y : KeptSubscription). list_any (is_due at) y.sub.slots) xs) h in
-    λ i. with_slots x (fail-rest at false x.sub.config x.sub.slots p.0 i) ∷ rest-subscriptions at xs p.1 i
+    let p = or_parts (has_due at x) (list_any (has_due at) xs) h in
+    λ i. rest-subscription at x p.0 i ∷ rest-subscriptions at xs p.1 i
 
 pub settle-rests : (at : ℕ) (s : State) → IsSteady s → is_any_due at s ≡ false → settle_state at s ≡ s
 settle-rests at s h none = ap (λ (xs : List KeptSubscription). record s { subscriptions = xs }) (rest-subscriptions at s.subscriptions none)
@@ -57,9 +62,16 @@ fail-ends : (at : ℕ) (forward : Bool) (config : SubConfig) (all slots : List S
 fail-ends at forward config all [] = refl
 fail-ends at forward config all (slot ∷ slots) = or_from _ _ (failing-ends at forward config all slot) (fail-ends at forward config all slots)
 
-ended-subscriptions : (at : ℕ) (xs : List KeptSubscription) → list_any (λ (x : KeptSubscription). list_any (is_due at) x.sub.slots) (map (settle_subscription at) xs) ≡ false
+ended-subscription : (at : ℕ) (x : KeptSubscription) → has_due at (settle_subscription at x) ≡ false
+ended-subscription at x = fail-ends at false x.sub.config x.sub.slots x.sub.slots
+
+-- what is settled stays
+pub settle-again : (at : ℕ) (x : KeptSubscription) → settle_subscription at (settle_subscription at x) ≡ settle_subscription at x
+settle-again at x = rest-subscription at (settle_subscription at x) (ended-subscription at x)
+
+ended-subscriptions : (at : ℕ) (xs : List KeptSubscription) → list_any (has_due at) (map (settle_subscription at) xs) ≡ false
 ended-subscriptions at [] = refl
-ended-subscriptions at (x ∷ xs) = or_from _ _ (fail-ends at false x.sub.config x.sub.slots x.sub.slots) (ended-subscriptions at xs)
+ended-subscriptions at (x ∷ xs) = or_from _ _ (ended-subscription at x) (ended-subscriptions at xs)
 
 pub settled-none-due : (at : ℕ) (s : State) → IsSteady s → is_any_due at (settle_state at s) ≡ false
 settled-none-due at s h = ended-subscriptions at s.subscriptions

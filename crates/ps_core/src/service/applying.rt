@@ -1,14 +1,14 @@
 ghost use Rattle.std.specs.Prelude.{◌≡◌, ◌&&◌, None, IfOk, is_some, true};
-ghost use Rattle.ps_core.specs.Calls.{is_normal, is_tick};
-ghost use Rattle.ps_model.specs.Checks.{argument_fault, as_read};
+ghost use Rattle.ps_core.specs.Calls.{is_tick};
+ghost use Rattle.ps_model.specs.Checks.{argument_fault, as_read, is_normal};
 ghost use Rattle.ps_model.specs.declared.reply.Reply.{Reply};
 ghost use Rattle.ps_core.specs.Built.{unbuilt};
 
-use crate::built::{argument_fault, is_normal, is_tick, unbuilt};
+use crate::built::{argument_fault, is_tick, unbuilt};
 use crate::service::outcome::Outcome;
 use crate::service::{Core, MOST_ENTRIES};
 use ps_base::{Moment, OutOfMemory};
-use ps_model::{Command, Entry};
+use ps_model::{Command, Entry, is_normal};
 use std::alloc::Global;
 
 impl Core {
@@ -19,12 +19,15 @@ impl Core {
     ghost use Rattle.ps_core.specs.Steady.{IsSteady};
 
     /// Whether a command is refused before the state is looked at.
-    fn is_refused(&self, command: &Command) -> bool
-        ensures refused { result ≡ is_some (refusal_of (seen self.now) command.now) }
+    fn is_refused(&self, alloc: Global, command: &Command) -> Result<bool, OutOfMemory>
+        ensures refused { IfOk result (λ refused. refused ≡ is_some (refusal_of (seen self.now) command.now)) }
         ensures steady { IsSteady self.now }
     {
         let full = self.count == MOST_ENTRIES;
-        unbuilt(command).is_some() || has_fault(command) || full
+        if unbuilt(command).is_some() {
+            return Ok(true);
+        }
+        Ok(argument_fault(alloc, command)?.is_some() || full)
     }
 
     /// Carries out a command like `carry`, and returns only whether it changed the world.
@@ -53,7 +56,8 @@ impl Core {
         ensures { IfOk result (λ taken. Applies (seen self.old) recorded.entry.now taken (seen self.new)) }
     {
         let command = &recorded.command;
-        if self.is_refused(command) {
+        let refused = self.is_refused(alloc, command)?;
+        if refused {
             return Ok(false);
         }
         if !is_normal(command) {
@@ -87,11 +91,4 @@ fn is_due_tick(command: &Command, moved: bool) -> bool
     ensures { result ≡ (is_tick command.now && moved) }
 {
     is_tick(command) && moved
-}
-
-fn has_fault(command: &Command) -> bool
-    requires { unbuilt command.now ≡ None }
-    ensures { result ≡ is_some (argument_fault (as_read command.now)) }
-{
-    argument_fault(command).is_some()
 }

@@ -1,4 +1,5 @@
 ghost use Rattle.std.specs.Prelude.{◌≡◌, ◌+◌};
+ghost use Rattle.std.specs.BTreeMap.{values};
 ghost use Rattle.ps_model.specs.Counting.{is_acknowledged, is_dead_lettered};
 ghost use Rattle.ps_model.specs.Lists.{tally};
 ghost use Rattle.ps_model.specs.Slots.{is_backlog, is_leased};
@@ -7,8 +8,9 @@ ghost use Rattle.ps_core.specs.Stats.{capped};
 
 use crate::kept_subscription::KeptSubscription;
 use crate::service::Core;
-use ps_model::{MessageRow, Stat};
+use ps_model::Stat;
 use ps_sub::SubCounts;
+use std::collections::BTreeMap;
 
 impl Core {
     ghost use Rattle.ps_core.specs.State.{seen};
@@ -19,14 +21,14 @@ impl Core {
     pub fn stat(&self) -> Stat
         ensures { result ≡ stat_of (seen self.now) }
     {
-        let marks = marks_of_all(self.tables.subscriptions.as_slice());
+        let marks = marks_of_all(&self.tables.subscriptions);
         Stat {
             entries: self.count,
             now: self.clock,
             topics: self.tables.topics.len() as u64,
             subscriptions: self.tables.subscriptions.len() as u64,
             snapshots: 0,
-            messages: kept_messages(self.tables.messages.as_slice()),
+            messages: self.tables.messages.len() as u64,
             backlog: marks.backlog,
             leased: marks.leased,
             acknowledged: marks.acknowledged,
@@ -35,25 +37,12 @@ impl Core {
     }
 }
 
-/// How many messages are still kept.
-fn kept_messages(messages: &[MessageRow]) -> u64
-    ensures { result ≡ tally (λ r. r.kept) messages.now }
-{
-    let mut kept = 0;
-    for row in messages {
-        if row.kept {
-            kept += 1;
-        }
-    }
-    kept
-}
-
 /// How many marks there are of each kind, over all subscriptions.
-fn marks_of_all(subscriptions: &[KeptSubscription]) -> SubCounts
-    ensures backlog { result.backlog ≡ capped (tally (λ r. is_backlog r.mark) (flat_marks subscriptions.now)) }
-    ensures leased { result.leased ≡ capped (tally (λ r. is_leased r.mark) (flat_marks subscriptions.now)) }
-    ensures acknowledged { result.acknowledged ≡ capped (tally (λ r. is_acknowledged r.mark) (flat_marks subscriptions.now)) }
-    ensures dead { result.dead ≡ capped (tally (λ r. is_dead_lettered r.mark) (flat_marks subscriptions.now)) }
+fn marks_of_all(subscriptions: &BTreeMap<u64, KeptSubscription>) -> SubCounts
+    ensures backlog { result.backlog ≡ capped (tally (λ r. is_backlog r.mark) (flat_marks (values subscriptions.now))) }
+    ensures leased { result.leased ≡ capped (tally (λ r. is_leased r.mark) (flat_marks (values subscriptions.now))) }
+    ensures acknowledged { result.acknowledged ≡ capped (tally (λ r. is_acknowledged r.mark) (flat_marks (values subscriptions.now))) }
+    ensures dead { result.dead ≡ capped (tally (λ r. is_dead_lettered r.mark) (flat_marks (values subscriptions.now))) }
 {
     let mut all = SubCounts {
         backlog: 0,
@@ -61,7 +50,7 @@ fn marks_of_all(subscriptions: &[KeptSubscription]) -> SubCounts
         acknowledged: 0,
         dead: 0,
     };
-    for subscription in subscriptions {
+    for subscription in subscriptions.values() {
         all = both(all, subscription.sub.counts());
     }
     all

@@ -1,25 +1,25 @@
-ghost use Rattle.std.specs.Prelude.{◌≡◌, ◌≤◌, ◌<◌, ◌+◌, ◌*◌, ◌^◌, ◌≢◌, [], true, false, IfOk, OnOk};
+ghost use Rattle.std.specs.Prelude.{◌≡◌, ◌≤◌, ◌<◌, ◌+◌, ◌*◌, ◌^◌, ◌≢◌, [], true, false, map, IfOk, OnOk};
 ghost use Rattle.ps_config.specs.Numbers.{most_ack_seconds};
 ghost use Rattle.ps_message.specs.Limits.{most_messages};
 ghost use Rattle.ps_model.specs.declared.command.Command.TheVariants.{Pull, Acknowledge};
 ghost use Rattle.ps_model.specs.Answering.{ticket_of};
-ghost use Rattle.ps_model.specs.Sound.{Ordered};
+ghost use Rattle.std.specs.BTreeMap.{values};
+ghost use Rattle.ps_core.specs.Keeping.{IsNumbered, the_message};
 ghost use Rattle.ps_model.specs.Worlds.{message_at};
-ghost use Rattle.ps_core.specs.Calls.{is_normal};
+ghost use Rattle.ps_model.specs.Checks.{as_read};
 ghost use Rattle.ps_core.specs.Delivering.{received, received_all, tickets_of};
 ghost use Rattle.ps_core.specs.Effects.{given_of, lend_subscription, ack_subscription};
 
 use crate::kept_subscription::KeptSubscription;
-use crate::messages::message_numbered;
 use crate::service::Core;
 use crate::service::outcome::Outcome;
-use crate::tables::Tables;
-use ps_base::{AckId, Duplicate, Labels, List, Moment, Octets, OutOfMemory, Text};
-use ps_config::DEFAULT_ACK_SECONDS;
+use crate::tables::{KeptMessage, Tables};
+use ps_base::{AckId, Duplicate, Labels, List, Moment, Octets, OutOfMemory, Reason, Text};
 use ps_message::Message;
-use ps_model::{Handed, MessageRow, ReceivedMessage, Reply, Ticket};
+use ps_model::{Handed, ReceivedMessage, Reply, Ticket};
 use ps_names::SubName;
 use std::alloc::Global;
+use std::collections::BTreeMap;
 
 impl Core {
     ghost use Rattle.ps_core.specs.Carrying.{CanRecord, IsCarried};
@@ -36,15 +36,21 @@ impl Core {
     ) -> Result<Outcome, OutOfMemory>
         requires can { CanRecord at self.old }
         requires some { max ≢ 0 }
-        requires normal { is_normal (Pull name.now max budget seconds) ≡ true }
+        requires read { as_read (Pull name.now max budget seconds) ≡ Pull name.now max budget seconds }
         ensures { IfOk result (λ outcome. IsCarried at (Pull name.now max budget seconds) self.old self.new outcome.reply outcome.changed) }
     {
-        let Some(place) = self.tables.subscription_places.find(name.text()) else {
+        let Some(number) = self.tables.subscription_numbers.find(name.text()) else {
             return Outcome::missing(alloc, name.text());
         };
-        let seconds = seconds.unwrap_or(DEFAULT_ACK_SECONDS);
-        let messages = self.tables.messages.as_slice();
-        let subscription = &mut self.tables.subscriptions[place];
+        let Some(subscription) = self.tables.subscriptions.get_mut(&number) else {
+            // Never reached: each name has the number of a subscription.
+            return Outcome::missing(alloc, name.text());
+        };
+        if subscription.detached {
+            return Ok(Outcome::not_allowed(Reason::Detached));
+        }
+        let seconds = seconds.unwrap_or(subscription.sub.config().ack_seconds);
+        let messages = &self.tables.messages;
         let items = match hand_out(alloc, at, max, budget, seconds, subscription, messages) {
             Ok(items) => items,
             Err(error) => {
@@ -83,10 +89,14 @@ impl Core {
         requires some { ids.now ≢ [] }
         ensures { IfOk result (λ outcome. IsCarried at (Acknowledge name.now ids.now) self.old self.new outcome.reply outcome.changed) }
     {
-        let Some(place) = self.tables.subscription_places.find(name.text()) else {
+        let Some(number) = self.tables.subscription_numbers.find(name.text()) else {
             return Outcome::missing(alloc, name.text());
         };
-        let changed = match take_back(alloc, ids, &mut self.tables.subscriptions[place]) {
+        let Some(subscription) = self.tables.subscriptions.get_mut(&number) else {
+            // Never reached: each name has the number of a subscription.
+            return Outcome::missing(alloc, name.text());
+        };
+        let changed = match take_back(alloc, ids, subscription) {
             Ok(changed) => changed,
             Err(error) => {
                 self.tables = Tables::new(alloc);
@@ -116,13 +126,13 @@ fn hand_out(
     budget: u64,
     seconds: u32,
     subscription: &mut KeptSubscription,
-    messages: &[MessageRow],
+    messages: &BTreeMap<u64, KeptMessage>,
 ) -> Result<List<ReceivedMessage>, OutOfMemory>
     requires few { max ≤ most_messages }
     requires lease { seconds ≤ most_ack_seconds }
     requires leases { subscription.old.sub.next_lease ≤ 2 ^ 61 }
-    requires messages { Ordered (λ a b. a.number < b.number) messages.now }
-    ensures items { IfOk result (λ items. items ≡ received_all subscription.old.number messages.now (given_of at max budget subscription.old)) }
+    requires messages { IsNumbered (λ x. x.row.number) messages.now.entries }
+    ensures items { IfOk result (λ items. items ≡ received_all subscription.old.number (map the_message (values messages.now)) (given_of at max budget subscription.old)) }
     ensures after { OnOk result (subscription.new ≡ lend_subscription (at + 1000 * seconds) (given_of at max budget subscription.old) subscription.old) }
 {
     let now = at.milliseconds();
@@ -135,10 +145,10 @@ fn received(
     alloc: Global,
     sub: u64,
     given: &[Handed],
-    messages: &[MessageRow],
+    messages: &BTreeMap<u64, KeptMessage>,
 ) -> Result<List<ReceivedMessage>, OutOfMemory>
-    requires { Ordered (λ a b. a.number < b.number) messages.now }
-    ensures { IfOk result (λ items. items ≡ received_all sub messages.now given.now) }
+    requires { IsNumbered (λ x. x.row.number) messages.now.entries }
+    ensures { IfOk result (λ items. items ≡ received_all sub (map the_message (values messages.now)) given.now) }
 {
     let mut items = List::new(alloc);
     for handed in given {
@@ -151,14 +161,14 @@ fn received_one(
     alloc: Global,
     sub: u64,
     handed: Handed,
-    messages: &[MessageRow],
+    messages: &BTreeMap<u64, KeptMessage>,
 ) -> Result<ReceivedMessage, OutOfMemory>
-    requires { Ordered (λ a b. a.number < b.number) messages.now }
-    ensures { IfOk result (λ shown. shown ≡ received sub handed (message_at messages.now handed.number)) }
+    requires { IsNumbered (λ x. x.row.number) messages.now.entries }
+    ensures { IfOk result (λ shown. shown ≡ received sub handed (message_at (map the_message (values messages.now)) handed.number)) }
 {
-    let (publish, message) = match message_numbered(messages, handed.number) {
-        Some(row) => (row.publish, row.message.copy(alloc)?),
-        // Never reached: each message of a subscription was published, and no message is removed.
+    let (publish, message) = match messages.get(&handed.number) {
+        Some(kept) => (kept.row.publish, kept.row.message.copy(alloc)?),
+        // Never reached: each message of a subscription is kept.
         None => (0, no_message(alloc)),
     };
     Ok(ReceivedMessage {

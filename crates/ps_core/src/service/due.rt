@@ -1,12 +1,14 @@
 ghost use Rattle.std.specs.Prelude.{◌≡◌, ◌<◌, ℕ, false, not};
+ghost use Rattle.std.specs.BTreeMap.{values};
 ghost use Rattle.std.specs.List.{list_any};
-ghost use Rattle.ps_model.specs.Failing.{is_due};
 ghost use Rattle.ps_model.specs.Same.{same_world};
 ghost use Rattle.ps_model.specs.Step as rules;
+ghost use Rattle.ps_core.specs.Settling.{has_due};
 
 use crate::kept_subscription::KeptSubscription;
 use crate::service::Core;
 use ps_base::Moment;
+use std::collections::BTreeMap;
 
 impl Core {
     ghost use Rattle.ps_core.specs.State.{seen};
@@ -27,14 +29,14 @@ impl Core {
             && self
                 .tables
                 .subscriptions
-                .iter()
+                .values()
                 .any(|kept| is_due(at, kept))
     }
 }
 
 /// Whether a lease of the subscription is over.
 pub(super) fn is_due(at: Moment, subscription: &KeptSubscription) -> bool
-    ensures { result ≡ list_any (is_due at) subscription.now.sub.slots }
+    ensures { result ≡ has_due at subscription.now }
 {
     subscription
         .sub
@@ -42,9 +44,20 @@ pub(super) fn is_due(at: Moment, subscription: &KeptSubscription) -> bool
         .is_some_and(|deadline| deadline <= at.milliseconds())
 }
 
+/// A moment before which no lease ends.
+pub(super) fn first_end_of_all(subscriptions: &BTreeMap<u64, KeptSubscription>) -> u64
+    ensures { (at : ℕ) → at < result → list_any (has_due at) (values subscriptions.now) ≡ false }
+{
+    let mut first = u64::MAX;
+    for subscription in subscriptions.values() {
+        first = first.min(first_end(subscription));
+    }
+    first
+}
+
 /// When the first lease of the subscription ends.
-pub(super) fn first_end(subscription: &KeptSubscription) -> u64
-    ensures { (at : ℕ) → at < result → list_any (is_due at) subscription.now.sub.slots ≡ false }
+fn first_end(subscription: &KeptSubscription) -> u64
+    ensures { (at : ℕ) → at < result → has_due at subscription.now ≡ false }
 {
     subscription.sub.first_deadline().unwrap_or(u64::MAX)
 }

@@ -1,7 +1,7 @@
 ghost use Rattle.std.specs.Prelude.{◌≡◌, Some, None, IfOk, true, false};
-ghost use Rattle.ps_model.specs.Checks.{argument_fault, as_read};
+ghost use Rattle.ps_model.specs.Checks.{argument_fault, as_read, is_normal};
+ghost use Rattle.ps_model.specs.Families.{is_topic_command, is_subscription_command, is_delivery_command, is_list_command};
 ghost use Rattle.ps_core.specs.Built.{unbuilt};
-ghost use Rattle.ps_core.specs.Calls.{is_normal};
 
 use crate::built::{argument_fault, as_read, unbuilt};
 use crate::service::outcome::Outcome;
@@ -34,15 +34,115 @@ impl Core {
         ensures { IfOk result (λ outcome. IsCarried at command.now self.old self.new outcome.reply outcome.changed) }
     {
         match command {
+            Command::Tick => Ok(Outcome::nothing()),
+            Command::CreateTopic { .. }
+            | Command::UpdateTopic { .. }
+            | Command::GetTopic { .. }
+            | Command::DeleteTopic { .. }
+            | Command::Publish { .. } => self.carry_topic(alloc, at, command),
+            Command::CreateSubscription { .. }
+            | Command::UpdateSubscription { .. }
+            | Command::GetSubscription { .. }
+            | Command::DeleteSubscription { .. }
+            | Command::Detach { .. } => self.carry_subscription(alloc, at, command),
+            Command::Pull { .. } | Command::Acknowledge { .. } => {
+                self.carry_delivery(alloc, at, command)
+            }
+            Command::ListTopics { .. }
+            | Command::ListTopicSubscriptions { .. }
+            | Command::ListSubscriptions { .. } => self.carry_list(alloc, at, command),
+            // Not built, so refused before.
+            Command::ListTopicSnapshots { .. }
+            | Command::ModifyAckDeadline { .. }
+            | Command::SeekTime { .. }
+            | Command::SeekSnapshot { .. }
+            | Command::CreateSnapshot { .. }
+            | Command::UpdateSnapshot { .. }
+            | Command::GetSnapshot { .. }
+            | Command::DeleteSnapshot { .. }
+            | Command::ListSnapshots { .. } => Ok(Outcome::nothing()),
+        }
+    }
+
+    /// Carries out a command on a topic like `carry`.
+    fn carry_topic(
+        &mut self,
+        alloc: Global,
+        at: Moment,
+        command: &Command,
+    ) -> Result<Outcome, OutOfMemory>
+        requires can { CanRecord at self.old }
+        requires family { is_topic_command command.now ≡ true }
+        requires built { unbuilt command.now ≡ None }
+        requires good { argument_fault command.now ≡ None }
+        ensures { IfOk result (λ outcome. IsCarried at command.now self.old self.new outcome.reply outcome.changed) }
+    {
+        match command {
             Command::CreateTopic { topic, config } => self.create_topic(alloc, at, topic, config),
+            Command::UpdateTopic {
+                topic,
+                mask,
+                config,
+            } => self.update_topic(alloc, at, topic, *mask, config),
+            Command::GetTopic { topic } => self.get_topic(alloc, at, topic),
+            Command::DeleteTopic { topic } => self.delete_topic(alloc, at, topic),
+            Command::Publish { topic, messages } => {
+                self.publish(alloc, at, topic, messages.as_slice())
+            }
+            _ => Ok(Outcome::nothing()),
+        }
+    }
+
+    /// Carries out a command on a subscription as a resource like `carry`.
+    fn carry_subscription(
+        &mut self,
+        alloc: Global,
+        at: Moment,
+        command: &Command,
+    ) -> Result<Outcome, OutOfMemory>
+        requires can { CanRecord at self.old }
+        requires family { is_subscription_command command.now ≡ true }
+        requires built { unbuilt command.now ≡ None }
+        requires good { argument_fault command.now ≡ None }
+        ensures { IfOk result (λ outcome. IsCarried at command.now self.old self.new outcome.reply outcome.changed) }
+    {
+        match command {
             Command::CreateSubscription {
                 subscription,
                 topic,
                 config,
             } => self.create_subscription(alloc, at, subscription, topic, config),
-            Command::Publish { topic, messages } => {
-                self.publish(alloc, at, topic, messages.as_slice())
+            Command::UpdateSubscription {
+                subscription,
+                mask,
+                config,
+            } => self.update_subscription(alloc, at, subscription, *mask, config),
+            Command::GetSubscription { subscription } => {
+                self.get_subscription(alloc, at, subscription)
             }
+            Command::DeleteSubscription { subscription } => {
+                self.delete_subscription(alloc, at, subscription)
+            }
+            Command::Detach { subscription } => self.detach(alloc, at, subscription),
+            _ => Ok(Outcome::nothing()),
+        }
+    }
+
+    /// Carries out a pull or an acknowledgement like `carry`.
+    fn carry_delivery(
+        &mut self,
+        alloc: Global,
+        at: Moment,
+        command: &Command,
+    ) -> Result<Outcome, OutOfMemory>
+        requires can { CanRecord at self.old }
+        requires family { is_delivery_command command.now ≡ true }
+        requires built { unbuilt command.now ≡ None }
+        requires normal { is_normal command.now ≡ true }
+        requires good { argument_fault command.now ≡ None }
+        ensures { IfOk result (λ outcome. IsCarried at command.now self.old self.new outcome.reply outcome.changed) }
+    {
+        match command {
             Command::Pull {
                 subscription,
                 max,
@@ -52,27 +152,33 @@ impl Core {
             Command::Acknowledge { subscription, ids } => {
                 self.acknowledge(alloc, at, subscription, ids.as_slice())
             }
-            Command::Tick => Ok(Outcome::nothing()),
-            // Not built, so refused before.
-            Command::UpdateTopic { .. }
-            | Command::GetTopic { .. }
-            | Command::DeleteTopic { .. }
-            | Command::ListTopics { .. }
-            | Command::ListTopicSubscriptions { .. }
-            | Command::ListTopicSnapshots { .. }
-            | Command::UpdateSubscription { .. }
-            | Command::GetSubscription { .. }
-            | Command::DeleteSubscription { .. }
-            | Command::ListSubscriptions { .. }
-            | Command::ModifyAckDeadline { .. }
-            | Command::SeekTime { .. }
-            | Command::SeekSnapshot { .. }
-            | Command::Detach { .. }
-            | Command::CreateSnapshot { .. }
-            | Command::UpdateSnapshot { .. }
-            | Command::GetSnapshot { .. }
-            | Command::DeleteSnapshot { .. }
-            | Command::ListSnapshots { .. } => Ok(Outcome::nothing()),
+            _ => Ok(Outcome::nothing()),
+        }
+    }
+
+    /// Shows a list like `carry`.
+    fn carry_list(
+        &self,
+        alloc: Global,
+        at: Moment,
+        command: &Command,
+    ) -> Result<Outcome, OutOfMemory>
+        requires can { CanRecord at self.now }
+        requires family { is_list_command command.now ≡ true }
+        requires built { unbuilt command.now ≡ None }
+        ensures { IfOk result (λ outcome. IsCarried at command.now self.now self.now outcome.reply outcome.changed) }
+    {
+        match command {
+            Command::ListTopics { project, paging } => {
+                self.list_topics(alloc, at, project, paging)
+            }
+            Command::ListTopicSubscriptions { topic, paging } => {
+                self.list_topic_subscriptions(alloc, at, topic, paging)
+            }
+            Command::ListSubscriptions { project, paging } => {
+                self.list_subscriptions(alloc, at, project, paging)
+            }
+            _ => Ok(Outcome::nothing()),
         }
     }
 
@@ -86,7 +192,7 @@ impl Core {
             let missing = Text::from_str(alloc, missing)?;
             return Ok(Some(Refusal::Unimplemented(missing)));
         }
-        if let Some(reason) = argument_fault(command) {
+        if let Some(reason) = argument_fault(alloc, command)? {
             return Ok(Some(Refusal::InvalidArgument(reason)));
         }
         Ok(if full { Some(Refusal::Exhausted) } else { None })

@@ -26,23 +26,21 @@ impl Core {
         requires fits { publish_fault messages.now ≡ None }
         ensures { IfOk result (λ outcome. IsCarried at (Publish topic.now messages.now) self.old self.new outcome.reply outcome.changed) }
     {
-        let Some(place) = self.tables.topic_places.find(topic.text()) else {
+        let Some(kept) = self.topic_named(topic.text()) else {
             return Outcome::missing(alloc, topic.text());
         };
         let first = self.next_message;
+        let number = kept.row.number;
         // Counted first: there are never more messages than a thousand for each entry.
         self.record(at);
-        if let Err(error) = self.tables.publish(alloc, place, first, at, messages) {
+        if let Err(error) = self.tables.publish(alloc, number, first, at, messages) {
             self.tables = Tables::new(alloc);
             return Err(error);
         }
         self.next_message += messages.len() as u64;
-        Ok(Outcome {
-            reply: Reply::Published {
-                first,
-                number: messages.len() as u32,
-            },
-            changed: true,
-        })
+        Ok(Outcome::changes(Reply::Published {
+            first,
+            number: messages.len() as u32,
+        }))
     }
 }

@@ -1,14 +1,19 @@
-ghost use Rattle.std.specs.Prelude.{◌≡◌, ◌<◌, ◌||◌, ℕ, min, false, map, IfOk, OnOk};
+ghost use Rattle.std.specs.Prelude.{◌≡◌, ◌<◌, ℕ, false, map, IfOk, OnOk};
+ghost use Rattle.std.specs.BTreeMap.{values};
 ghost use Rattle.std.specs.List.{list_any};
-ghost use Rattle.ps_model.specs.Failing.{is_due};
+ghost use Rattle.ps_model.specs.Sound.{Ordered};
 ghost use Rattle.ps_core.specs.Effects.{settle_subscription};
+ghost use Rattle.ps_core.specs.Keeping.{IsNumbered};
+ghost use Rattle.ps_core.specs.Settling.{due_numbers, has_due, settle_numbered};
+ghost use Rattle.ps_core.specs.State.{number_of};
 
 use crate::kept_subscription::KeptSubscription;
 use crate::service::Core;
-use crate::service::due::{first_end, is_due};
+use crate::service::due::{first_end_of_all, is_due};
 use crate::tables::Tables;
 use ps_base::{Moment, OutOfMemory};
 use std::alloc::Global;
+use std::collections::BTreeMap;
 
 /// What settling found: whether a lease was over, and a moment before which no other lease ends.
 #[derive(Clone, Copy)]
@@ -30,7 +35,7 @@ impl Core {
         if now < self.next_end {
             return Ok(false);
         }
-        match settle_all(alloc, at, self.tables.subscriptions.as_mut_slice()) {
+        match settle_all(alloc, at, &mut self.tables.subscriptions) {
             Ok(settled) => {
                 self.next_end = settled.next_end;
                 Ok(settled.moved)
@@ -46,47 +51,66 @@ impl Core {
 fn settle_all(
     alloc: Global,
     at: Moment,
-    subscriptions: &mut [KeptSubscription],
+    subscriptions: &mut BTreeMap<u64, KeptSubscription>,
 ) -> Result<Settled, OutOfMemory>
-    ensures after { OnOk result (subscriptions.new ≡ map (settle_subscription at) subscriptions.old) }
-    ensures moved { IfOk result (λ settled. settled.moved ≡ list_any (λ x. list_any (is_due at) x.sub.slots) subscriptions.old) }
-    ensures next_end { IfOk result (λ settled. (u : ℕ) → u < settled.next_end → list_any (λ x. list_any (is_due u) x.sub.slots) subscriptions.new ≡ false) }
+    requires numbered { IsNumbered number_of subscriptions.old.entries }
+    requires order { Ordered (λ a b. a.number < b.number) (values subscriptions.old) }
+    ensures numbered { OnOk result (IsNumbered number_of subscriptions.new.entries) }
+    ensures after { OnOk result (values subscriptions.new ≡ map (settle_subscription at) (values subscriptions.old)) }
+    ensures moved { IfOk result (λ settled. settled.moved ≡ list_any (has_due at) (values subscriptions.old)) }
+    ensures next_end { IfOk result (λ settled. (u : ℕ) → u < settled.next_end → list_any (has_due u) (values subscriptions.new) ≡ false) }
 {
-    let mut all = Settled {
-        moved: false,
-        next_end: u64::MAX,
-    };
-    for subscription in subscriptions.iter_mut() {
-        all = both(all, settle_one(alloc, at, subscription)?);
+    let due = due_numbers(alloc, at, subscriptions)?;
+    for number in due.as_slice() {
+        settle_numbered(alloc, at, *number, subscriptions)?;
     }
-    Ok(all)
+    Ok(Settled {
+        moved: !due.is_empty(),
+        next_end: first_end_of_all(subscriptions),
+    })
+}
+
+/// The numbers of the subscriptions on which a lease is over.
+fn due_numbers(
+    alloc: Global,
+    at: Moment,
+    subscriptions: &BTreeMap<u64, KeptSubscription>,
+) -> Result<Vec<u64>, OutOfMemory>
+    ensures { IfOk result (λ numbers. numbers.items ≡ due_numbers at (values subscriptions.now)) }
+{
+    let numbers = subscriptions
+        .values()
+        .filter(|subscription| is_due(at, subscription))
+        .map(|subscription| subscription.number)
+        .collect(alloc)?;
+    Ok(numbers)
+}
+
+/// Settles the subscription with this number, if it is there.
+fn settle_numbered(
+    alloc: Global,
+    at: Moment,
+    number: u64,
+    subscriptions: &mut BTreeMap<u64, KeptSubscription>,
+) -> Result<(), OutOfMemory>
+    requires numbered { IsNumbered number_of subscriptions.old.entries }
+    requires order { Ordered (λ a b. a.number < b.number) (values subscriptions.old) }
+    ensures numbered { OnOk result (IsNumbered number_of subscriptions.new.entries) }
+    ensures after { OnOk result (values subscriptions.new ≡ map (settle_numbered at number) (values subscriptions.old)) }
+{
+    match subscriptions.get_mut(&number) {
+        Some(subscription) => settle_one(alloc, at, subscription),
+        None => Ok(()),
+    }
 }
 
 fn settle_one(
     alloc: Global,
     at: Moment,
     subscription: &mut KeptSubscription,
-) -> Result<Settled, OutOfMemory>
-    ensures after { OnOk result (subscription.new ≡ settle_subscription at subscription.old) }
-    ensures moved { IfOk result (λ settled. settled.moved ≡ list_any (is_due at) subscription.old.sub.slots) }
-    ensures next_end { IfOk result (λ settled. (u : ℕ) → u < settled.next_end → list_any (is_due u) subscription.new.sub.slots ≡ false) }
+) -> Result<(), OutOfMemory>
+    ensures { OnOk result (subscription.new ≡ settle_subscription at subscription.old) }
 {
-    let now = at.milliseconds();
-    let moved = is_due(at, subscription);
-    subscription.sub.settle(alloc, now, false)?;
-    Ok(Settled {
-        moved,
-        next_end: first_end(subscription),
-    })
-}
-
-/// What was found in two parts.
-fn both(a: Settled, b: Settled) -> Settled
-    ensures moved { result.moved ≡ (a.moved || b.moved) }
-    ensures next_end { result.next_end ≡ min a.next_end b.next_end }
-{
-    Settled {
-        moved: a.moved || b.moved,
-        next_end: a.next_end.min(b.next_end),
-    }
+    let _dead_letters = subscription.sub.settle(alloc, at.milliseconds(), false)?;
+    Ok(())
 }

@@ -17,13 +17,17 @@ fn following(number: u64) -> u64 {
 
 /// The row that a number says.
 fn chosen(number: u64) -> &'static str {
-    match number % 8 {
+    match number % 16 {
         0 => "tick",
-        1 => "subscription",
-        2 => "acknowledge",
-        3 => "pull-none",
-        4 => "pull-many",
-        5 => "publish-two",
+        1..=3 => "subscription",
+        4 => "acknowledge",
+        5 => "pull-none",
+        6 | 7 => "pull-many",
+        8 | 9 => "publish-two",
+        10 => "update-topic",
+        11 => "update-subscription",
+        12 => "detach",
+        13 => "delete-subscription",
         _ => "pull-ten",
     }
 }

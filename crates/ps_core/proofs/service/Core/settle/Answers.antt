@@ -1,9 +1,7 @@
-use Rattle.std.proofs.Common.{sym, arith, map, ap, ◌∙◌}
-use Rattle.ps_core.specs.Effects.{settle_subscription}
-use Rattle.std.proofs.lemmas.List.{with_items_is}
+use Rattle.std.proofs.Common.{sym, refl, arith}
 use Rattle.ps_core.specs.contracts.service.Core.{the_view}
 use Rattle.ps_core.proofs.settling.Moving.{settle-rests}
-use Rattle.ps_core.proofs.carrying.Kept.{kept-settled}
+use Rattle.ps_core.proofs.settling.Ending.{kept-settled}
 use Rattle.ps_core.proofs.service.Core.settle.Goals as goal
 
 pub returns-then-now-self-clause-after : goal.returns-then-now-self-clause-after
@@ -13,5 +11,4 @@ returns-then-now-self-clause-after c =
 
 pub invariant_of-self : goal.invariant_of-self
 invariant_of-self c =
-    let subscriptions = with_items_is c.self.inside.tables.subscriptions c.settle_all.new.subscriptions (omega arith) in
-    rw subscriptions (kept-settled c.args.at (the_view c.self.inside) _ _ _ _ c.self.invariant c.settle_all.new.subscriptions c.in-Ok.settled.next_end (c.in-Ok.ensures.after ∙ ap (map (settle_subscription c.args.at)) c.as_mut_slice.ensures.value) c.in-Ok.ensures.next_end)
+    kept-settled c.args.at (the_view c.self.inside) c.self.inside.next_end c.in-Ok.settled.next_end c.self.inside.tables _ c.self.invariant refl c.in-Ok.ensures.after refl refl refl refl c.in-Ok.ensures.numbered c.in-Ok.ensures.next_end

@@ -1,34 +1,34 @@
-use Rattle.std.proofs.Common.{◌≡◌, ◌<◌, ◌≤◌, ◌+◌, ◌||◌, Bool, List, length, drop, get_or, sym, ap, ◌∙◌, arith}
-use Rattle.std.specs.List.{list_any}
-use Rattle.std.proofs.lemmas.List.Edits.{map_over_more}
-use Rattle.std.proofs.Math.Bool.{or_assoc}
-use Rattle.ps_model.specs.Failing.{is_due}
+use Rattle.std.proofs.Common.{◌≡◌, ◌<◌, ℕ, List, arith, length, map, nat_eq, not, subst, sym, ap, ◌∙◌}
+use Rattle.std.specs.BTreeMap.{values}
+use Rattle.ps_model.specs.Sound.{Ordered}
 use Rattle.ps_core.specs.declared.kept_subscription.KeptSubscription.{KeptSubscription}
-use Rattle.ps_core.specs.Effects.{settle_subscription}
-use Rattle.ps_core.proofs.settling.Loop.{any-drop, at-over, none-more, over-all, over-done}
+use Rattle.ps_core.proofs.settling.Loop.{any-listed, listed-due, listed-end, listed-next, settle_listed, settled-order}
 use Rattle.ps_core.proofs.service.settling.settle_all.Goals as goal
 
-pub loop-subscription-preserved : goal.loop-subscription-preserved
-loop-subscription-preserved c =
-    let old = c.args.subscriptions.now in
-    let i = c.loop-subscription.subscription-index in
-    let before = c.loop-subscription.invariant in
-    let x = c.subscription-item.result in
-    let within : i < length old = omega arith in
-    let here : get_or c.loop-subscription.subscriptions i x ≡ get_or old i x = ap (λ (xs : List KeptSubscription). get_or xs i x) before.subscriptions ∙ at-over (settle_subscription c.args.at) old i x within in
-    let step = c.in_ok-settle_one.ensures in
-    let due : KeptSubscription → Bool = λ y. list_any (is_due c.args.at) y.sub.slots in
+pub loop-number-init : goal.loop-number-init
+loop-number-init c = record {
+  numbered = c.requires.numbered;
+  order = c.requires.order;
+  left = ap (λ (ns : List ℕ). map (settle_listed c.args.at ns) (values c.args.subscriptions.now)) (c.as_slice-number-items.ensures.value ∙ c.in_ok-due.ensures) ∙ listed-due c.args.at (values c.args.subscriptions.now);
+}
+
+pub loop-number-preserved : goal.loop-number-preserved
+loop-number-preserved c =
+    let before = c.loop-number.invariant in
+    let after = c.in_ok-settle_numbered.ensures.after in
     record {
-      subscriptions = rw (step.after, ← c.subscription-item.is) (map_over_more (settle_subscription c.args.at) old c.loop-subscription.subscriptions i x within before.subscriptions c.subscription-item.is);
-      moved =
-          ap (λ (b : Bool). b || list_any due (drop (i + 1) old)) (c.both-all.ensures.moved ∙ ap (λ (b : Bool). c.loop-subscription.all.moved || b) (step.moved ∙ ap due here))
-          ∙ or_assoc c.loop-subscription.all.moved (due (get_or old i x)) (list_any due (drop (i + 1) old)) ∙ ap (λ (b : Bool). c.loop-subscription.all.moved || b) (sym (any-drop due old i x within)) ∙ before.moved;
-      next_end = λ u earlier.
-          none-more (λ (y : KeptSubscription). list_any (is_due u) y.sub.slots) (settle_subscription c.args.at) old i x within (before.next_end u (omega (arith, earlier, c.both-all.ensures.next_end)))
-          (ap (λ (y : KeptSubscription). list_any (is_due u) y.sub.slots) (ap (settle_subscription c.args.at) (sym here) ∙ sym step.after) ∙ step.next_end u (omega (arith, earlier, c.both-all.ensures.next_end)));
+      numbered = c.in_ok-settle_numbered.ensures.numbered;
+      order = subst (Ordered (λ (a b : KeptSubscription). a.number < b.number)) (sym after) (settled-order c.args.at _ (values c.loop-number.subscriptions) before.order);
+      left = listed-next c.args.at c.loop-number.number-index c.as_slice-number-items.result.now (values c.loop-number.subscriptions) _ c.loop-number-test.true after ∙ before.left;
     }
 
-pub returns-clause-next_end : goal.returns-clause-next_end
-returns-clause-next_end c u before =
-    let all : length c.args.subscriptions.now ≤ c.loop-subscription.subscription-index = omega arith in
-    ap (list_any (λ (y : KeptSubscription). list_any (is_due u) y.sub.slots)) (c.loop-subscription.invariant.subscriptions ∙ over-done (settle_subscription c.args.at) c.args.subscriptions.now c.loop-subscription.subscription-index all ∙ sym (over-all (settle_subscription c.args.at) c.args.subscriptions.now c.loop-subscription.subscription-index all)) ∙ c.loop-subscription.invariant.next_end u before
+pub returns : goal.returns
+returns c =
+    let done = c.loop-number.invariant in
+    let none : c.is_empty.result ≡ nat_eq (length c.in_ok-due.due.items) 0 = c.is_empty.ensures ∙ grind arith in
+    record {
+      numbered = done.numbered;
+      after = sym (listed-end c.args.at c.loop-number.number-index c.as_slice-number-items.result.now (values c.loop-number.subscriptions) c.loop-number-test.false) ∙ done.left;
+      moved = ap not none ∙ ap (λ (ns : List ℕ). not (nat_eq (length ns) 0)) c.in_ok-due.ensures ∙ any-listed c.args.at (values c.args.subscriptions.now);
+      next_end = c.first_end_of_all.ensures;
+    }

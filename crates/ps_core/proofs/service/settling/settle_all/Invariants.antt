@@ -1,14 +1,16 @@
-use Rattle.std.proofs.Common.{◌≡◌, ◌<◌, ◌++◌, ◌||◌, ℕ, false, map, take, drop}
-use Rattle.std.specs.List.{list_any}
-use Rattle.ps_model.specs.Failing.{is_due}
+use Rattle.std.proofs.Common.{◌≡◌, ◌<◌, map, drop}
+use Rattle.std.specs.BTreeMap.{values}
+use Rattle.ps_model.specs.Sound.{Ordered}
 use Rattle.ps_core.specs.Effects.{settle_subscription}
-use Rattle.ps_core.specs.declared.kept_subscription.KeptSubscription.{KeptSubscription}
+use Rattle.ps_core.specs.Keeping.{IsNumbered}
+use Rattle.ps_core.specs.State.{number_of}
+use Rattle.ps_core.proofs.settling.Loop.{settle_listed}
 use Rattle.ps_core.proofs.service.settling.settle_all.Given as goal
 
--- those so far are settled, and the others are as they were
-abbrev pub invariant-loop-subscription : goal.invariant-loop-subscription
-invariant-loop-subscription l = record {
-  subscriptions : l.subscriptions ≡ map (settle_subscription l.at) (take l.subscription-index l.initial.subscriptions) ++ drop l.subscription-index l.initial.subscriptions;
-  moved : l.all.moved || list_any (λ (x : KeptSubscription). list_any (is_due l.at) x.sub.slots) (drop l.subscription-index l.initial.subscriptions) ≡ list_any (λ (x : KeptSubscription). list_any (is_due l.at) x.sub.slots) l.initial.subscriptions;
-  next_end : (u : ℕ) → u < l.all.next_end → list_any (λ (x : KeptSubscription). list_any (is_due u) x.sub.slots) (map (settle_subscription l.at) (take l.subscription-index l.initial.subscriptions)) ≡ false;
+-- what is left to settle makes all settled
+abbrev pub invariant-loop-number : goal.invariant-loop-number
+invariant-loop-number l = record {
+  numbered : IsNumbered number_of l.subscriptions.entries;
+  order : Ordered (λ a b. a.number < b.number) (values l.subscriptions);
+  left : map (settle_listed l.at (drop l.number-index l.number-items)) (values l.subscriptions) ≡ map (settle_subscription l.at) (values l.initial.subscriptions);
 }
