@@ -109,7 +109,7 @@ fn a_line_is_at_most_127_levels_deep(rt: HostRuntime) -> Result<(), Fail> {
         >* 3..127 [
         >* 3..127 ]
         > }}
-        refuses 501 UNIMPLEMENTED x
+        refuses 400 INVALID_ARGUMENT unknown field: x
         = 0
         $ batch -
         >- {"at":1000,"verb":"PUT","path":"/v1/projects/p/topics/abc","body":{"x":

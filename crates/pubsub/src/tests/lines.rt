@@ -79,7 +79,7 @@ fn a_line_is_a_call(rt: HostRuntime) -> Result<(), Fail> {
         gives {"name":"projects/p/topics/abc"}
         call 7 PUT /v1/projects/p/topics/abc {"labels":{}}
         gives {"name":"projects/p/topics/abc"}
-        call 7 PUT /v1/projects/p/topics/abc {"a":false,"b":0,"c":"","d":[],"e":null}
+        call 7 PUT /v1/projects/p/topics/abc {"state":false,"tags":0,"kmsKeyName":"","messageTransforms":[],"e":null}
         gives {"name":"projects/p/topics/abc"}
         = 0
         "#,
@@ -119,7 +119,7 @@ fn a_line_is_a_call(rt: HostRuntime) -> Result<(), Fail> {
         ),
         (
             7,
-            r#"{"at":7,"verb":"PUT","path":"/v1/projects/p/topics/abc","body":{"a":false,"b":0,"c":"","d":[],"e":null}}"#,
+            r#"{"at":7,"verb":"PUT","path":"/v1/projects/p/topics/abc","body":{"state":false,"tags":0,"kmsKeyName":"","messageTransforms":[],"e":null}}"#,
         ),
     ];
     for (moment, line) in moments {
@@ -134,24 +134,34 @@ fn a_path_names_a_call(rt: HostRuntime) -> Result<(), Fail> {
         rt.alloc(),
         r#"
         $ batch -
-        call 7 PUT /v1/projects/p/topics/a%62c {}
-        refuses 501 UNIMPLEMENTED route
-        call 7 PUT /v1/projects/p/topics/abc?x=1 {}
-        refuses 501 UNIMPLEMENTED route
         call 7 PUT /v1/projects/p/topics/abc:publish {}
-        refuses 501 UNIMPLEMENTED route
+        refuses 404 NOT_FOUND /v1/projects/p/topics/abc:publish
+        call 7 PUT /v1/projects/p/topics/abc: {}
+        refuses 404 NOT_FOUND /v1/projects/p/topics/abc:
         call 7 PUT /v1/projects/p/topics/abc/x {}
-        refuses 501 UNIMPLEMENTED route
+        refuses 404 NOT_FOUND /v1/projects/p/topics/abc/x
+        call 7 PUT /v1/projects/p/topics/abc/ {}
+        refuses 404 NOT_FOUND /v1/projects/p/topics/abc/
         call 7 PUT /v1/projects/p/topics {}
-        refuses 501 UNIMPLEMENTED route
+        refuses 404 NOT_FOUND /v1/projects/p/topics
+        call 7 PUT /v1/projects/p/nothing/abc {}
+        refuses 404 NOT_FOUND /v1/projects/p/nothing/abc
+        call 7 PUT /v1/projects/p/nothing/%61%2Fbc?x=1 []
+        refuses 404 NOT_FOUND /v1/projects/p/nothing/%61%2Fbc
+        call 7 PUT /v1/projects%2Fp/topics/abc {}
+        refuses 404 NOT_FOUND /v1/projects%2Fp/topics/abc
         call 7 PUT /v2/projects/p/topics/abc {}
-        refuses 501 UNIMPLEMENTED route
+        refuses 404 NOT_FOUND /v2/projects/p/topics/abc
+        call 7 PUT /v1%2Fprojects/p/topics/abc {}
+        refuses 404 NOT_FOUND /v1%2Fprojects/p/topics/abc
         call 7 PUT v1/projects/p/topics/abc {}
-        refuses 501 UNIMPLEMENTED route
+        refuses 404 NOT_FOUND v1/projects/p/topics/abc
         call 7 PUT /v1/projects/p/Topics/abc {}
-        refuses 501 UNIMPLEMENTED route
+        refuses 404 NOT_FOUND /v1/projects/p/Topics/abc
         > {"at":7,"verb":"PUT","path":"","body":{}}
-        refuses 501 UNIMPLEMENTED route
+        < {"body":{"error":{"code":404,"message":"","status":"NOT_FOUND"}},"code":404}
+        > {"at":7,"verb":"PUT","path":"?/v1/projects/p/topics/abc","body":{}}
+        < {"body":{"error":{"code":404,"message":"","status":"NOT_FOUND"}},"code":404}
         call 7 PUT /v1/projects/p/topics/ {}
         refuses 400 INVALID_ARGUMENT name
         call 7 PUT /v1/projects//topics/abc {}
@@ -162,8 +172,50 @@ fn a_path_names_a_call(rt: HostRuntime) -> Result<(), Fail> {
         refuses 400 INVALID_ARGUMENT name
         call 7 PUT /v1/projects/P/topics/abc {}
         refuses 400 INVALID_ARGUMENT name
+        call 7 PUT /v1/projects/p/topics/a%2Fbc {}
+        refuses 400 INVALID_ARGUMENT name
+        call 7 PUT /v1/projects/p/topics/ab%3Fc {}
+        refuses 400 INVALID_ARGUMENT name
         > {"at":7,"verb":"put","path":"/v1/projects/p/topics/abc"}
-        refuses 501 UNIMPLEMENTED route
+        refuses 404 NOT_FOUND /v1/projects/p/topics/abc
+        call 7 PUT /v1/projects/p/topics/ab%FFc []
+        refuses 400 INVALID_ARGUMENT path
+        call 7 PUT /v1/%80 {}
+        refuses 400 INVALID_ARGUMENT path
+        call 7 PUT /v1/projects/p/topics/abc:%C3%28 {}
+        refuses 400 INVALID_ARGUMENT path
+        call 7 PUT /v2/%80 {}
+        refuses 404 NOT_FOUND /v2/%80
+        = 0
+        "#,
+    )
+}
+
+/// A path is decoded part by part, and the pairs of a query that no list uses are ignored.
+#[test]
+fn a_path_is_decoded(rt: HostRuntime) -> Result<(), Fail> {
+    transcript(
+        rt.alloc(),
+        r#"
+        $ batch -
+        call 7 PUT /v1/%70rojects/p/topics/a%62c?alt=json&prettyPrint=true {}
+        gives {"name":"projects/p/topics/abc"}
+        call 7 GET /v1/projects/p/topics/abc?alt=json {}
+        gives {"name":"projects/p/topics/abc"}
+        call 7 GET /v1/projects/p/topics/abc? {}
+        gives {"name":"projects/p/topics/abc"}
+        call 7 GET /v1/projects/p/topics/%61bc?pageSize=x&%FF ["the body isn't looked at"]
+        gives {"name":"projects/p/topics/abc"}
+        call 7 PUT /v1/projects/p/topics/ab%zz {}
+        gives {"name":"projects/p/topics/ab%zz"}
+        call 7 GET /v1/projects/p/topics/ab%25zz {}
+        gives {"name":"projects/p/topics/ab%zz"}
+        call 7 GET /v1/projects/p/topics/ab%2 {}
+        refuses 404 NOT_FOUND projects/p/topics/ab%2
+        call 7 GET /v1/projects/p/topics/a%2Fbc {}
+        refuses 400 INVALID_ARGUMENT name
+        call 7 POST /v1/projects/p/topics/abc%3Apublish?alt=json {"messages":[{"data":"aGk="}]}
+        gives {"messageIds":["1"]}
         = 0
         "#,
     )
@@ -182,13 +234,13 @@ fn a_body_is_checked_in_order(rt: HostRuntime) -> Result<(), Fail> {
         call 7 PUT /v1/projects/p/topics/ab ""
         refuses 400 INVALID_ARGUMENT body
         call 7 PUT /v1 7
-        refuses 501 UNIMPLEMENTED route
-        call 7 PUT /v1/projects/p/topics/abc {"labels":{"a":"b"}}
-        refuses 501 UNIMPLEMENTED labels
+        refuses 404 NOT_FOUND /v1
+        call 7 PUT /v1/projects/p/topics/abc {"schemaSettings":{"schema":"x"}}
+        refuses 501 UNIMPLEMENTED schemaSettings
         call 7 PUT /v1/projects/p/topics/abc {"b":1,"a":true,"Z":[0]}
-        refuses 501 UNIMPLEMENTED Z
-        call 7 PUT /v1/projects/p/topics/ab {"name":7,"labels":[1]}
-        refuses 501 UNIMPLEMENTED labels
+        refuses 400 INVALID_ARGUMENT unknown field: Z
+        call 7 PUT /v1/projects/p/topics/ab {"name":7,"tags":[1]}
+        refuses 501 UNIMPLEMENTED tags
         call 7 PUT /v1/projects/p/topics/ab {"name":7}
         refuses 400 INVALID_ARGUMENT name
         call 7 PUT /v1/projects/p/topics/abc {"name":7}

@@ -178,8 +178,8 @@ fn refusals_name_the_first_check(rt: HostRuntime) -> Result<(), Fail> {
         gives {"name":"projects/p/topics/abc"}
         call 1000 PUT /v1/projects/p/subscriptions/none {"topic":"projects/p/topics/none"}
         refuses 404 NOT_FOUND projects/p/topics/none
-        call 1000 PUT /v1/projects/p/subscriptions/none {"topic":"projects/p/topics/abc","labels":{"a":"b"}}
-        refuses 501 UNIMPLEMENTED labels
+        call 1000 PUT /v1/projects/p/subscriptions/none {"topic":"projects/p/topics/abc","tags":{"a":"b"}}
+        refuses 501 UNIMPLEMENTED tags
         call 1000 PUT /v1/projects/p/subscriptions/none {"topic":"projects/p/topics/abc","more":""}
         refuses 400 INVALID_ARGUMENT unknown field: more
         call 1000 PUT /v1/projects/p/subscriptions/none {"topic":7,"more":""}
@@ -214,10 +214,18 @@ fn refusals_name_the_first_check(rt: HostRuntime) -> Result<(), Fail> {
         refuses 400 INVALID_ARGUMENT ackIds
         call 1000 POST /v1/projects/p/subscriptions/sub:acknowledge {"ackIds":["x",null]}
         refuses 400 INVALID_ARGUMENT shape: ackIds[1]
-        call 1000 POST /v1/projects/p/subscriptions/sub:seek {}
-        refuses 501 UNIMPLEMENTED route
+        call 1000 POST /v1/projects/p/subscriptions/sub:seek 7
+        refuses 501 UNIMPLEMENTED Seek
+        call 1000 POST /v1/projects/p/subscriptions/none:shake {}
+        refuses 404 NOT_FOUND /v1/projects/p/subscriptions/none:shake
         call 1000 GET /v1/projects/p/topics/abc {}
-        refuses 501 UNIMPLEMENTED route
+        gives {"name":"projects/p/topics/abc"}
+        call 1000 GET /v1/projects/p/topics/none {}
+        refuses 404 NOT_FOUND projects/p/topics/none
+        call 1000 DELETE /v1/projects/p/snapshots/abc {}
+        refuses 501 UNIMPLEMENTED DeleteSnapshot
+        call 1000 GET /v1/projects/p/snapshots?pageSize=x {}
+        refuses 501 UNIMPLEMENTED ListSnapshots
         call 1000 POST /v1/projects/p/topics/abc:publish {"messages":[{"attributes":{"a":"1"}}]}
         gives {"messageIds":["1"]}
         "#,
