@@ -1,0 +1,13 @@
+pub mod Texts
+pub mod Rows
+pub mod Insert
+pub mod Append
+pub mod Page
+pub mod Read
+pub mod Keep
+pub mod Delete
+pub mod Replace
+pub mod Numbers
+pub mod Count
+pub mod Compiled
+pub mod Adopt

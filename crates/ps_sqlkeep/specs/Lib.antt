@@ -1,0 +1,10 @@
+pub mod Entries
+pub mod Kept
+pub mod Keeper
+pub mod Calls
+pub mod Shown
+pub mod Filling
+pub mod Orders
+pub mod Laws
+pub mod Summary
+pub mod Adopting

@@ -1,0 +1,16 @@
+//! A log in a table of an SQLite database.
+#![tactic(auto)]
+
+mod adopting;
+mod in_order;
+mod keeper;
+mod reading;
+mod replacing;
+mod schema;
+mod statements;
+
+pub use in_order::InOrder;
+pub use keeper::{SqlKeeper, Unadopted};
+
+#[cfg(test)]
+mod tests;
