@@ -3,7 +3,7 @@ use Rattle.std.proofs.Common.{◌≡◌, ℕ, suc, ◌+◌, ◌*◌, ◌-◌, �
 use Rattle.ps_filter.specs.declared.grammar.Level.{Level}
 use Rattle.ps_filter.specs.declared.grammar.Level.TheVariants.{Nothing, Ands, Ors}
 use Rattle.ps_filter.specs.declared.token.Placed.{Placed}
-use Rattle.ps_filter.specs.Filters.{Tree, Both, Either, Found, then_read, one_token, is_mark, is_and, is_or, is_negation, is_end, has_ands, has_ors, simple_test, expression, joined, term, read_filter}
+use Rattle.ps_filter.specs.Filters.{Tree, Both, Either, Found, then_read, one_token, is_mark, is_and, is_or, is_negation, is_end, has_ands, has_ors, simple_test, expression, joined, term, read_filter, grouped}
 use Rattle.ps_filter.specs.Tokens.{tokens}
 
 deeper : {X : Type 0} (f : ℕ → X) (n : ℕ) → 0 < n → f n ≡ f (suc (n - 1))
@@ -22,7 +22,7 @@ pub joined_by_or : (deep : ℕ) (level : Level) (tree : Tree) (ts rest : List Pl
 joined_by_or deep level tree ts rest t some is not_and or none = rw (deeper (λ n. joined n level tree ts) deep some, is, not_and, or, none) refl
 
 pub term_in_parentheses : (deep : ℕ) (ts rest : List Placed) (t : Placed) → 0 < deep → ts ≡ t ∷ rest → is_negation t.token ≡ false → is_mark 40 t.token ≡ true
-    → term deep ts ≡ then_read (expression (deep - 1) rest) (λ tree behind. then_read (one_token (is_mark 41) behind) (λ closing more. Found tree more))
+    → term deep ts ≡ grouped (expression (deep - 1) rest)
 term_in_parentheses deep ts rest t some is plain opens = rw (deeper (λ n. term n ts) deep some, is, plain, opens) refl
 
 pub term_alone : (deep : ℕ) (ts rest : List Placed) (t : Placed) → 0 < deep → ts ≡ t ∷ rest → is_negation t.token ≡ false → is_mark 40 t.token ≡ false

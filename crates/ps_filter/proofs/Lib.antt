@@ -1,1 +1,11 @@
 pub mod GrammarLemmas
+pub mod Loosened
+pub mod Reading
+pub mod TestReadings
+pub mod ExpressionReadings
+pub mod Enough
+pub mod Complete
+pub mod TokenRuns
+pub mod Whole
+pub mod Problems
+pub mod GrammarExamples

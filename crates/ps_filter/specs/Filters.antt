@@ -162,6 +162,10 @@ has_ors Nothing = false
 has_ors Ands = false
 has_ors Ors = true
 
+-- a tree, and the parenthesis that closes it
+abbrev pub grouped : Read Tree → Read Tree
+grouped read = then_read read (λ tree behind. then_read (one_token (is_mark 41) behind) (λ closing more. Found tree more))
+
 -- The grammar. The first argument bounds the depth of the calls: two for each token, which is always enough.
 abbrev mutual
   -- a term, or terms joined by `AND`, or terms joined by `OR`
@@ -186,7 +190,7 @@ abbrev mutual
   term (suc deep) [] = Fails (FilterSyntax 0)
   term (suc deep) (t ∷ rest) =
       if is_negation t.token then then_read (term deep rest) (λ tree behind. Found (Negated tree) behind)
-      else if is_mark 40 t.token then then_read (expression deep rest) (λ tree behind. then_read (one_token (is_mark 41) behind) (λ closing more. Found tree more))
+      else if is_mark 40 t.token then grouped (expression deep rest)
       else simple_test t rest
 
 -- an expression with nothing after it

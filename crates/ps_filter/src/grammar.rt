@@ -201,7 +201,7 @@ fn behind_or(
 /// Reads an expression after an opening parenthesis, and the closing one.
 #[cycle(grammar)]
 fn in_parentheses(alloc: Global, deep: u32, tokens: &mut Cursor<'_>) -> Result<Tree, FilterError>
-    ensures { ReadsAs meaning (spec.then_read (spec.expression deep tokens.old) (λ tree behind. spec.then_read (spec.one_token (spec.is_mark 41) behind) (λ closing more. spec.Found tree more))) result tokens.new }
+    ensures { ReadsAs meaning (spec.grouped (spec.expression deep tokens.old)) result tokens.new }
 {
     let tree = expression(alloc, deep, tokens)?;
     tokens.symbol(b')')?;
