@@ -32,14 +32,14 @@ pub fn check_topic(config: &TopicConfig, mask: Mask) -> Option<Reason>
 pub fn check_sub(config: &SubConfig, mask: Mask) -> Option<Reason>
     ensures { result ≡ sub_fault mask config.now }
 {
-    match fault_before_filter(config, mask) {
-        None => fault_behind_filter(config, mask),
+    match check_sub_before_filter(config, mask) {
+        None => check_sub_behind_filter(config, mask),
         fault => fault,
     }
 }
 
-/// The checks that stand before that of the filter.
-fn fault_before_filter(config: &SubConfig, mask: Mask) -> Option<Reason>
+/// The first check that stands before that of the filter and that the masked settings break. Takes no memory.
+pub fn check_sub_before_filter(config: &SubConfig, mask: Mask) -> Option<Reason>
     ensures { result ≡ first_of (sub_checks_before_filter mask config.now) }
 {
     if mask.has(0) && has_bad_deadline(config.ack_seconds) {
@@ -58,8 +58,8 @@ fn fault_before_filter(config: &SubConfig, mask: Mask) -> Option<Reason>
     None
 }
 
-/// The checks that stand behind that of the filter.
-fn fault_behind_filter(config: &SubConfig, mask: Mask) -> Option<Reason>
+/// The first check that stands behind that of the filter and that the masked settings break. Takes no memory.
+pub fn check_sub_behind_filter(config: &SubConfig, mask: Mask) -> Option<Reason>
     ensures { result ≡ first_of (sub_checks_behind_filter mask config.now) }
 {
     if mask.has(5) && has_bad_attempts(&config.dead_letter) {

@@ -36,3 +36,8 @@ pub const MOST_LABELS: usize = 64;
 
 /// Of a label's key, which isn't empty, and of its value.
 pub const MOST_BYTES_OF_LABEL: usize = 63;
+
+/// The items of a page, if no number is asked for, and the most of one page.
+pub const DEFAULT_PAGE: u32 = 100;
+
+pub const MOST_OF_PAGE: u32 = 1_000;

@@ -20,6 +20,10 @@ abbrev pub filter_setting_fault : List ℕ → Option Reason
 filter_setting_fault [] = None
 filter_setting_fault (c ∷ cs) = filter_fault (c ∷ cs)
 
+-- the first limit that the filter of a subscription or a setting behind it breaks
+abbrev pub fault_from_filter : SubConfig → Option Reason
+fault_from_filter config = first_of (filter_setting_fault config.filter ∷ first_of (sub_checks_behind_filter whole_mask config) ∷ [])
+
 -- the first check that the settings of a new subscription break
 abbrev pub new_sub_fault : SubConfig → Option Reason
 new_sub_fault config = first_of (

@@ -1,6 +1,7 @@
 //! The service as plain values: its types here, and its rules in specs/.
 #![tactic(auto)]
 
+mod checks;
 mod command;
 mod forms;
 mod hold;
@@ -11,6 +12,7 @@ mod reply;
 mod stat;
 mod world;
 
+pub use checks::check_new_sub;
 pub use command::{Command, Entry, Paging};
 pub use forms::Form;
 pub use hold::{Hold, Holds};
