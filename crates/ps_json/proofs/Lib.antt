@@ -1,15 +1,9 @@
 pub mod AckIdLemmas
 pub mod CheckLemmas
 pub mod DateLemmas
-pub mod DeliveryLemmas
-pub mod DurationLemmas
-pub mod FieldLemmas
-pub mod KindLemmas
 pub mod LineLemmas
 pub mod MessageLemmas
 pub mod PublishingLemmas
 pub mod ReplyLemmas
-pub mod SettingLemmas
-pub mod ShapeLemmas
 pub mod TimeLemmas
 pub mod ValueLemmas

@@ -5,9 +5,9 @@ use Rattle.std.proofs.lemmas.Str.{IsUtf8-from_is_utf8, is_utf8-from_IsUtf8}
 use Rattle.serde_json.specs.Data.{Data, Members}
 use Rattle.serde_json.specs.Find.{get_member, as_str, as_object}
 use Rattle.serde_json.specs.Read.{read}
-use Rattle.ps_json.specs.Fields.{all_names, without, whole_field, text_field}
+use Rattle.ps_fields.specs.Fields.{all_names, without, whole_field, text_field}
+use Rattle.ps_fields.proofs.FieldLemmas.{get_member-without}
 use Rattle.ps_json.specs.Line.{is_line_field, line_of, line_of_members, line_with, body_or_empty}
-use Rattle.ps_json.proofs.FieldLemmas.{get_member-without}
 
 abbrev pub after_at : Members → Members
 after_at ms = without (codes "at") ms

@@ -1,24 +1,31 @@
 -- Messages one after another.
-use Rattle.std.proofs.Common.{◌≡◌, ℕ, ◌+◌, ◌<◌, List, [], ◌∷◌, ◌++◌, map, length, get_or, drop, Option, Some, None, Ok, Err, refl, ap, sym, ◌∙◌, add-one, drop-cons, append_assoc}
+use Rattle.std.proofs.Common.{◌≡◌, ℕ, ◌+◌, ◌<◌, List, [], ◌∷◌, ◌++◌, map, length, get_or, drop, codes, Option, Some, None, Result, Ok, Err, refl, ap, sym, ◌∙◌, add-one, drop-cons, append_assoc}
 use Rattle.std.specs.List.{enumerate_from, flat_map}
 use Rattle.serde_json.specs.Data.{Data, Members}
 use Rattle.serde_json.specs.Find.{as_object}
 use Rattle.serde_json.specs.View.{view}
 use Rattle.serde_json.specs.declared.value.Value.{Value}
+use Rattle.ps_base.specs.declared.reason.Reason.TheVariants.{Shape}
 use Rattle.ps_base.specs.declared.refusal.Refusal.{Refusal}
+use Rattle.ps_base.specs.declared.refusal.Refusal.TheVariants.{InvalidArgument}
 use Rattle.ps_message.specs.declared.message.Message.{Message}
 use Rattle.ps_message.specs.Lists.{first_of}
 use Rattle.ps_json.specs.declared.read_error.ReadError.{ReadError}
 use Rattle.ps_json.specs.declared.read_error.ReadError.TheVariants.{Refused, OutOfMemory}
 use Rattle.ps_json.specs.Checks.{checked, unless, Reads}
-use Rattle.ps_json.specs.Publishing.{all_shapes, attributes_of, data_of, items_in, key_of, members_in, message_of, message_shapes, messages_in}
-use Rattle.ps_json.proofs.CheckLemmas.{stop_in}
+use Rattle.ps_json.specs.Publishing.{all_shapes, attributes_of, data_of, field_path, key_of, members_in, message_of, message_shapes, messages_read}
 
 -- a message whose fields were all read
 pub whole_message : (place : ℕ) (d : Data) (ms : Members) (payload : List ℕ) (attributes : List (List ℕ × List ℕ)) (key : List ℕ)
     → Some ms ≡ as_object d → Some payload ≡ data_of ms → Some attributes ≡ attributes_of ms → Some key ≡ key_of ms
     → checked (message_shapes (place, d)) (message_of (members_in d)) ≡ Ok (record { payload = payload; attributes = attributes; key = key })
 whole_message place d ms payload attributes key object has_payload has_attributes has_key = rw (← object, ← has_payload, ← has_attributes, ← has_key)
+
+-- a message whose key is of another kind
+pub no_key : {A : Type 0} (place : ℕ) (d : Data) (ms : Members) (payload : List ℕ) (attributes : List (List ℕ × List ℕ)) (value : A)
+    → Some ms ≡ as_object d → Some payload ≡ data_of ms → Some attributes ≡ attributes_of ms → None ≡ key_of ms
+    → checked (message_shapes (place, d)) value ≡ Err (InvalidArgument (Shape (field_path place (codes "orderingKey"))))
+no_key place d ms payload attributes value object has_payload has_attributes none = rw (← object, ← has_payload, ← has_attributes, ← none)
 
 drop_here : {A : Type 0} (xs : List A) (i : ℕ) (x : A) → i < length xs → x ≡ get_or xs i x → drop i xs ≡ x ∷ drop (i + 1) xs
 drop_here xs i x lt is = rw (add-one, drop-cons xs i x lt, ← is) refl
@@ -80,16 +87,7 @@ map_map : (vs : List Value) → map message_in vs ≡ map (λ item. message_of (
 map_map [] = refl
 map_map (v ∷ vs) = ap (λ rest. message_in v ∷ rest) (map_map vs)
 
--- all were read
-pub all_read : (vs : List Value) (ms : Members) (messages : List Message) → map view vs ≡ items_in ms → checked (all_shapes (map view vs)) (map message_in vs) ≡ Ok messages
-    → (first_of (all_shapes (items_in ms)) ≡ None) × (messages ≡ messages_in ms)
-all_read vs ms messages items reads =
-    let both = passed _ (map message_in vs) messages reads in
-    (ap (λ items. first_of (all_shapes items)) (sym items) ∙ both.0, sym both.1 ∙ (map_map vs ∙ ap (map (λ item. message_of (members_in item))) items))
-
--- one is refused
-pub one_refused : {A : Type 0} (vs : List Value) (ms : Members) (e : ReadError) (rest : List (Option Refusal)) (value : A) → map view vs ≡ items_in ms
-    → Reads {A = List Message} (Err e) (checked (all_shapes (map view vs)) (map message_in vs)) → Reads {A = A} (Err e) (checked (all_shapes (items_in ms) ++ rest) value)
-one_refused vs ms (Refused r) rest value items refuses =
-    stop_in (all_shapes (items_in ms)) rest value r (ap (λ items. first_of (all_shapes items)) (sym items) ∙ refused_by _ (map message_in vs) r refuses)
-one_refused vs ms OutOfMemory rest value items refuses = tt
+-- what reading the items answers is what the body's messages are
+pub all_read : (r : Result (List Message) ReadError) (vs : List Value) (items : Option (List Data)) → Some (map view vs) ≡ items
+    → Reads r (checked (all_shapes (map view vs)) (map message_in vs)) → Reads r (messages_read items)
+all_read r vs items is reads = rw (← is, ← map_map vs) reads

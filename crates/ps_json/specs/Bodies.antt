@@ -1,4 +1,4 @@
--- What the bodies of calls on topics and on subscriptions have in common: each check gives the refusal, or what is read.
+-- What the bodies of calls have in common: each check gives the refusal, or what is read.
 use Rattle.std.specs.Prelude.{ℕ, ⊤, List, [], ◌∷◌, Bool, false, not, codes, Option, Some, None, option_map, unwrap_or, Result, Ok, Err}
 use Rattle.std.specs.Str.{bytes_eq}
 use Rattle.serde_json.specs.Data.{Data, null, boolean, number, string, array, object, Members, no_members}
@@ -7,15 +7,15 @@ use Rattle.ps_base.specs.declared.reason.Reason.TheVariants.{Name, Shape, Update
 use Rattle.ps_base.specs.declared.refusal.Refusal.{Refusal}
 use Rattle.ps_base.specs.declared.refusal.Refusal.TheVariants.{InvalidArgument, Unimplemented}
 use Rattle.ps_config.specs.declared.mask.Mask.{Mask}
-use Rattle.ps_json.specs.declared.rows.Object.{Object}
+use Rattle.ps_fields.specs.declared.rows.Object.{Object}
+use Rattle.ps_fields.specs.Fields.{object_in}
+use Rattle.ps_fields.specs.Kinds.{text_of}
+use Rattle.ps_fields.specs.Shapes.{first_wrong}
+use Rattle.ps_fields.specs.Paths.{least}
+use Rattle.ps_fields.specs.Unknown.{unknown_paths}
 use Rattle.ps_json.specs.Checks.{broken, checked, unknown}
-use Rattle.ps_json.specs.Fields.{object_in}
-use Rattle.ps_json.specs.Kinds.{text_of}
 use Rattle.ps_json.specs.Masks.{mask_of}
 use Rattle.ps_json.specs.Missing.{unbuilt_paths}
-use Rattle.ps_json.specs.Shapes.{first_wrong}
-use Rattle.ps_json.specs.Tables.{least}
-use Rattle.ps_json.specs.Unknown.{unknown_paths}
 
 -- nothing that a resource asks for or a mask names isn't built
 abbrev pub built : Object → List ℕ → Members → List (List ℕ) → Result ⊤ Refusal
@@ -28,9 +28,16 @@ deepest = 3
 abbrev pub wrong_shape : Object → Members → Option Refusal
 wrong_shape table ms = option_map (λ path. InvalidArgument (Shape path)) (first_wrong deepest table [] ms)
 
+abbrev pub unknown_field : Object → Members → Option Refusal
+unknown_field table ms = unknown (unknown_paths deepest table [] ms)
+
+-- each field is listed
+abbrev pub known : Object → Members → Result ⊤ Refusal
+known table ms = checked (unknown_field table ms ∷ []) tt
+
 -- each value is of its kind, and each field is listed
 abbrev pub well_formed : Object → Members → Result ⊤ Refusal
-well_formed table ms = checked (wrong_shape table ms ∷ unknown (unknown_paths deepest table [] ms) ∷ []) tt
+well_formed table ms = checked (wrong_shape table ms ∷ unknown_field table ms ∷ []) tt
 
 -- a text that is there, the empty one too, and isn't this name
 abbrev pub is_another : List ℕ → Option Data → Bool

@@ -5,9 +5,9 @@ use Rattle.ps_base.specs.declared.reason.Reason.TheVariants.{Name, Shape, Unknow
 use Rattle.ps_base.specs.declared.refusal.Refusal.{Refusal}
 use Rattle.ps_base.specs.declared.refusal.Refusal.TheVariants.{InvalidArgument}
 use Rattle.ps_message.specs.Lists.{first_of}
+use Rattle.ps_fields.specs.Paths.{least}
 use Rattle.ps_json.specs.declared.read_error.ReadError.{ReadError}
 use Rattle.ps_json.specs.declared.read_error.ReadError.TheVariants.{Refused, OutOfMemory}
-use Rattle.ps_json.specs.Tables.{least}
 
 -- refused if the test holds
 abbrev pub broken : Bool → Reason → Option Refusal

@@ -13,11 +13,11 @@ use Rattle.ps_json.specs.declared.named.PathNames.{PathNames}
 use Rattle.ps_json.specs.declared.named.Query.{Query}
 use Rattle.ps_json.specs.Checks.{and_then, checked}
 use Rattle.ps_json.specs.Creations.{create_topic, create_subscription}
-use Rattle.ps_json.specs.Deliveries.{pull_checks, pull_command, acknowledge_checks, acknowledge_command}
+use Rattle.ps_json.specs.Deliveries.{pull, acknowledge}
 use Rattle.ps_json.specs.Listing.{topics_asked, topic_subscriptions_asked, subscriptions_asked}
 use Rattle.ps_json.specs.Names.{call_name, topic_name, sub_name}
 use Rattle.ps_json.specs.Naming.{topic_in, sub_in, detach_checks}
-use Rattle.ps_json.specs.Publishing.{publish_checks, publish_command}
+use Rattle.ps_json.specs.Publishing.{publish}
 use Rattle.ps_json.specs.Updates.{update_topic, update_subscription}
 
 abbrev pub fields_in : Option Members → Result Members Refusal
@@ -40,13 +40,13 @@ command_of GetTopic path query body = and_then (topic_in path) (λ topic. Ok (co
 command_of DeleteTopic path query body = and_then (topic_in path) (λ topic. Ok (command.DeleteTopic topic))
 command_of ListTopics path query body = topics_asked path query
 command_of ListTopicSubscriptions path query body = topic_subscriptions_asked path query
-command_of Publish path query body = and_then (fields_of body) (λ ms. checked (publish_checks (topic_name path) ms) (publish_command (topic_name path) ms))
+command_of Publish path query body = and_then (fields_of body) (publish (topic_name path))
 command_of CreateSubscription path query body = and_then (fields_of body) (create_subscription (sub_name path))
 command_of UpdateSubscription path query body = and_then (fields_of body) (update_subscription (sub_name path))
 command_of GetSubscription path query body = and_then (sub_in path) (λ subscription. Ok (command.GetSubscription subscription))
 command_of DeleteSubscription path query body = and_then (sub_in path) (λ subscription. Ok (command.DeleteSubscription subscription))
 command_of ListSubscriptions path query body = subscriptions_asked path query
-command_of Pull path query body = and_then (fields_of body) (λ ms. checked (pull_checks (sub_name path) ms) (pull_command (sub_name path) ms))
-command_of Acknowledge path query body = and_then (fields_of body) (λ ms. checked (acknowledge_checks (sub_name path) ms) (acknowledge_command (sub_name path) ms))
+command_of Pull path query body = and_then (fields_of body) (pull (sub_name path))
+command_of Acknowledge path query body = and_then (fields_of body) (acknowledge (sub_name path))
 command_of Detach path query body = and_then (fields_of body) (λ ms. checked (detach_checks (sub_name path) ms) (command.Detach (sub_name path)))
 command_of call path query body = Err (unbuilt call)

@@ -8,10 +8,10 @@ use Rattle.ps_base.specs.declared.refusal.Refusal.TheVariants.{InvalidArgument}
 use Rattle.ps_names.specs.Names.{is_topic_name, is_sub_name}
 use Rattle.ps_model.specs.declared.command.Command.{Command}
 use Rattle.ps_model.specs.declared.command.Command.TheVariants.{CreateTopic, CreateSubscription}
-use Rattle.ps_json.specs.declared.rows.Object.TheVariants as body
+use Rattle.ps_fields.specs.declared.rows.Object.TheVariants as body
+use Rattle.ps_fields.specs.Kinds.{text_of}
 use Rattle.ps_json.specs.Bodies.{built, own_name, well_formed}
 use Rattle.ps_json.specs.Checks.{and_then, name_read}
-use Rattle.ps_json.specs.Kinds.{text_of}
 use Rattle.ps_json.specs.Settings.{new_subscription, new_topic}
 
 abbrev pub create_topic : List ℕ → Members → Result Command Refusal

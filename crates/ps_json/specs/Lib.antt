@@ -4,9 +4,6 @@ pub mod Checks
 pub mod Commands
 pub mod Creations
 pub mod Deliveries
-pub mod Durations
-pub mod Fields
-pub mod Kinds
 pub mod Line
 pub mod Listing
 pub mod Masks
@@ -15,16 +12,10 @@ pub mod Missing
 pub mod Names
 pub mod Naming
 pub mod Objects
-pub mod Paths
 pub mod Publishing
 pub mod Replies
 pub mod Resources
-pub mod Rows
 pub mod Settings
-pub mod Shapes
 pub mod Shown
-pub mod Tables
 pub mod Times
-pub mod Timestamps
-pub mod Unknown
 pub mod Updates

@@ -4,7 +4,7 @@ use Rattle.std.specs.Str.{is_utf8, bytes_eq}
 use Rattle.serde_json.specs.Data.{Data, null, boolean, number, string, array, object, Members, no_members}
 use Rattle.serde_json.specs.Read.{read}
 use Rattle.serde_json.specs.Find.{get_member, as_object}
-use Rattle.ps_json.specs.Fields.{all_names, whole_field, text_field}
+use Rattle.ps_fields.specs.Fields.{all_names, whole_field, text_field}
 
 -- a line's moment, its verb and path as texts, and its body
 pub record Line : Type 0 where

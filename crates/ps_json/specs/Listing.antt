@@ -7,10 +7,10 @@ use Rattle.ps_names.specs.Names.{is_project}
 use Rattle.ps_model.specs.declared.command.Command.{Command}
 use Rattle.ps_model.specs.declared.command.Command.TheVariants.{ListTopics, ListTopicSubscriptions, ListSubscriptions}
 use Rattle.ps_model.specs.declared.command.Paging.{Paging}
+use Rattle.ps_fields.specs.Kinds.{whole_text}
 use Rattle.ps_json.specs.declared.named.PathNames.{PathNames}
 use Rattle.ps_json.specs.declared.named.Query.{Query}
 use Rattle.ps_json.specs.Checks.{and_then, name_read}
-use Rattle.ps_json.specs.Kinds.{whole_text}
 use Rattle.ps_json.specs.Naming.{topic_in}
 
 -- ---- a page

@@ -3,8 +3,8 @@ use Rattle.std.specs.Prelude.{ℕ, List, [], ◌∷◌, Bool, eqb, bit_or, codes
 use Rattle.std.specs.List.{slice_split}
 use Rattle.std.specs.Str.{bytes_eq}
 use Rattle.ps_config.specs.declared.mask.Mask.{Mask}
-use Rattle.ps_json.specs.declared.rows.Object.{Object}
-use Rattle.ps_json.specs.declared.rows.Object.TheVariants.{Topic, Subscription}
+use Rattle.ps_fields.specs.declared.rows.Object.{Object}
+use Rattle.ps_fields.specs.declared.rows.Object.TheVariants.{Topic, Subscription}
 
 abbrev pub is_comma : ℕ → Bool
 is_comma b = eqb b 44

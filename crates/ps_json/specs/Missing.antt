@@ -3,9 +3,9 @@ use Rattle.std.specs.Prelude.{ℕ, ◌++◌, List, [], ◌∷◌, map, filter, B
 use Rattle.std.specs.List.{list_any}
 use Rattle.std.specs.Str.{bytes_eq}
 use Rattle.serde_json.specs.Data.{Data, null, boolean, number, string, array, object, Members}
-use Rattle.ps_json.specs.declared.rows.Object.{Object}
-use Rattle.ps_json.specs.declared.rows.Object.TheVariants.{Topic, Subscription}
-use Rattle.ps_json.specs.Fields.{is_filled, is_one_of, pairs_of}
+use Rattle.ps_fields.specs.declared.rows.Object.{Object}
+use Rattle.ps_fields.specs.declared.rows.Object.TheVariants.{Topic, Subscription}
+use Rattle.ps_fields.specs.Fields.{is_filled, is_one_of, pairs_of}
 
 -- settings that aren't built yet
 abbrev pub unbuilt : Object → List (List ℕ)

@@ -5,9 +5,9 @@ use Rattle.ps_base.specs.declared.reason.Reason.TheVariants.{Name, UnknownField}
 use Rattle.ps_base.specs.declared.refusal.Refusal.{Refusal}
 use Rattle.ps_base.specs.declared.refusal.Refusal.TheVariants.{InvalidArgument}
 use Rattle.ps_names.specs.Names.{is_topic_name, is_sub_name}
+use Rattle.ps_fields.specs.Fields.{is_null}
 use Rattle.ps_json.specs.declared.named.PathNames.{PathNames}
 use Rattle.ps_json.specs.Checks.{broken, name_read}
-use Rattle.ps_json.specs.Fields.{is_null}
 use Rattle.ps_json.specs.Names.{topic_name, sub_name}
 
 -- the name of the topic or of the subscription that a path gives, if it fits its grammar

@@ -1,9 +1,9 @@
--- What a publish asks, by the name in its path and the fields of its body.
-use Rattle.std.specs.Prelude.{ℕ, ◌∷◌, ◌++◌, List, [], map, not, codes, Option, option_map, unwrap_or}
+-- What a publish asks, by the name in its path and the fields of its body: its checks in their order, and the command.
+use Rattle.std.specs.Prelude.{ℕ, ⊤, ◌∷◌, ◌++◌, List, [], map, codes, Option, Some, None, option_map, unwrap_or, Result, Ok, Err}
 use Rattle.std.specs.List.{enumerate_from, flat_map}
 use Rattle.serde_json.specs.Data.{Data, Members, no_members}
 use Rattle.serde_json.specs.Find.{as_object, get_member}
-use Rattle.ps_base.specs.declared.reason.Reason.TheVariants.{Name}
+use Rattle.ps_base.specs.declared.reason.Reason.TheVariants.{Shape}
 use Rattle.ps_base.specs.declared.refusal.Refusal.{Refusal}
 use Rattle.ps_base.specs.declared.refusal.Refusal.TheVariants.{InvalidArgument}
 use Rattle.ps_names.specs.Names.{is_topic_name}
@@ -11,15 +11,11 @@ use Rattle.ps_message.specs.declared.message.Message.{Message}
 use Rattle.ps_message.specs.Messages.{publish_fault}
 use Rattle.ps_model.specs.declared.command.Command.{Command}
 use Rattle.ps_model.specs.declared.command.Command.TheVariants.{Publish}
-use Rattle.ps_json.specs.declared.tables.Table.TheVariants as table
-use Rattle.ps_json.specs.declared.paths.Place.TheVariants as place
-use Rattle.ps_json.specs.Checks.{broken, shape, unknown}
-use Rattle.ps_json.specs.Kinds.{bytes_of, list_of, map_of, text_of}
-use Rattle.ps_json.specs.Paths.{item_path, path_in}
-use Rattle.ps_json.specs.Tables.{unknown_paths}
-
-abbrev pub items_in : Members → List Data
-items_in ms = unwrap_or (list_of (get_member (codes "messages") ms)) []
+use Rattle.ps_fields.specs.declared.rows.Object.TheVariants as body
+use Rattle.ps_fields.specs.Kinds.{bytes_of, list_of, map_of, text_of}
+use Rattle.ps_fields.specs.Paths.{item_path}
+use Rattle.ps_json.specs.Bodies.{known}
+use Rattle.ps_json.specs.Checks.{and_then, checked, name_read, shape}
 
 -- the fields of an item; none if it is no object
 abbrev pub members_in : Data → Members
@@ -39,38 +35,39 @@ key_of ms = text_of (get_member (codes "orderingKey") ms)
 abbrev pub message_of : Members → Message
 message_of ms = record { payload = unwrap_or (data_of ms) []; attributes = unwrap_or (attributes_of ms) []; key = unwrap_or (key_of ms) [] }
 
+-- the path of a field of the message at this place
+abbrev pub field_path : ℕ → List ℕ → List ℕ
+field_path place name = (item_path (codes "messages") place ++ codes ".") ++ name
+
 -- the shapes of the message at this place
 abbrev pub message_shapes : ℕ × Data → List (Option Refusal)
 message_shapes item =
     shape (item_path (codes "messages") item.0) (as_object item.1)
-    ∷ shape (path_in (place.Message item.0) (codes "data")) (data_of (members_in item.1))
-    ∷ shape (path_in (place.Message item.0) (codes "attributes")) (attributes_of (members_in item.1))
-    ∷ shape (path_in (place.Message item.0) (codes "orderingKey")) (key_of (members_in item.1))
+    ∷ shape (field_path item.0 (codes "data")) (data_of (members_in item.1))
+    ∷ shape (field_path item.0 (codes "attributes")) (attributes_of (members_in item.1))
+    ∷ shape (field_path item.0 (codes "orderingKey")) (key_of (members_in item.1))
     ∷ []
 
-abbrev pub unknown_in_message : ℕ × Data → List (List ℕ)
-unknown_in_message item = unknown_paths table.Message (place.Message item.0) (members_in item.1)
-
 -- ---- all of them
-
-abbrev pub messages_in : Members → List Message
-messages_in ms = map (λ item. message_of (members_in item)) (items_in ms)
 
 abbrev pub all_shapes : List Data → List (Option Refusal)
 all_shapes items = flat_map message_shapes (enumerate_from 0 items)
 
--- the unknown fields of the body, and of its messages
-abbrev pub unknown_in_all : Members → List Data → List (List ℕ)
-unknown_in_all ms items = unknown_paths table.Publish place.Body ms ++ flat_map unknown_in_message (enumerate_from 0 items)
+abbrev pub messages_read : Option (List Data) → Result (List Message) Refusal
+messages_read None = Err (InvalidArgument (Shape (codes "messages")))
+messages_read (Some items) = checked (all_shapes items) (map (λ item. message_of (members_in item)) items)
 
-abbrev pub publish_checks : List ℕ → Members → List (Option Refusal)
-publish_checks name ms =
-    broken (not (is_topic_name name)) Name
-    ∷ shape (codes "messages") (list_of (get_member (codes "messages") ms))
-    ∷ (all_shapes (items_in ms)
-    ++ (unknown (unknown_in_all ms (items_in ms))
-    ∷ option_map InvalidArgument (publish_fault (messages_in ms))
-    ∷ []))
+-- the messages of a body, or the first shape that is broken
+abbrev pub messages_in : Members → Result (List Message) Refusal
+messages_in ms = messages_read (list_of (get_member (codes "messages") ms))
 
-abbrev pub publish_command : List ℕ → Members → Command
-publish_command name ms = Publish name (messages_in ms)
+-- they break no limit
+abbrev pub within_limits : List Message → Result ⊤ Refusal
+within_limits messages = checked (option_map InvalidArgument (publish_fault messages) ∷ []) tt
+
+abbrev pub publish : List ℕ → Members → Result Command Refusal
+publish name ms =
+    and_then (name_read (is_topic_name name) name) (λ topic.
+    and_then (messages_in ms) (λ messages.
+    and_then (known body.Publish ms) (λ none.
+    and_then (within_limits messages) (λ none. Ok (Publish topic messages)))))

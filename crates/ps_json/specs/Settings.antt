@@ -13,9 +13,9 @@ use Rattle.ps_config.specs.Masks.{default_sub, default_topic, masked_sub, masked
 use Rattle.ps_config.specs.Numbers.{default_ack_seconds, default_expiration, default_retention}
 use Rattle.ps_message.specs.Lists.{first_of}
 use Rattle.ps_model.specs.Checks.{filter_setting_fault, new_sub_fault}
+use Rattle.ps_fields.specs.Fields.{object_in}
+use Rattle.ps_fields.specs.Kinds.{duration_value, flag_of, map_of, text_of, whole_of}
 use Rattle.ps_json.specs.Checks.{unless}
-use Rattle.ps_json.specs.Fields.{object_in}
-use Rattle.ps_json.specs.Kinds.{duration_value, flag_of, map_of, text_of, whole_of}
 
 abbrev pub labels_in : Members → List (List ℕ × List ℕ)
 labels_in ms = unwrap_or (map_of (get_member (codes "labels") ms)) []
@@ -58,10 +58,6 @@ new_topic ms = unless (option_map InvalidArgument (topic_fault whole_mask (topic
 
 abbrev pub new_subscription : Members → Result SubConfig Refusal
 new_subscription ms = unless (option_map InvalidArgument (new_sub_fault (subscription_in ms))) (subscription_in ms)
-
--- the first limit that the filter or a setting behind it breaks
-abbrev pub fault_from_filter : SubConfig → Option Reason
-fault_from_filter config = first_of (filter_setting_fault config.filter ∷ first_of (sub_checks_behind_filter whole_mask config) ∷ [])
 
 -- the settings of an update, of which those that the mask doesn't name have their defaults, or the first one that breaks a limit
 

@@ -5,7 +5,7 @@ use Rattle.ps_base.specs.declared.refusal.Refusal.{Refusal}
 use Rattle.ps_names.specs.Names.{is_topic_name, is_sub_name}
 use Rattle.ps_model.specs.declared.command.Command.{Command}
 use Rattle.ps_model.specs.declared.command.Command.TheVariants.{UpdateTopic, UpdateSubscription}
-use Rattle.ps_json.specs.declared.rows.Object.TheVariants as body
+use Rattle.ps_fields.specs.declared.rows.Object.TheVariants as body
 use Rattle.ps_json.specs.Bodies.{built, mask_in, mask_read, own_name, resource_in, well_formed}
 use Rattle.ps_json.specs.Checks.{and_then, name_read}
 use Rattle.ps_json.specs.Masks.{names_in}

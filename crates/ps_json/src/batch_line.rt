@@ -2,12 +2,12 @@
 ghost use Rattle.std.specs.Prelude.{◌≡◌, codes, option_map, option_and_then, IfOk};
 ghost use Rattle.serde_json.specs.Find.{as_object, get_member};
 ghost use Rattle.serde_json.specs.View.{view, members_view};
-ghost use Rattle.ps_json.specs.Fields.{all_names};
+ghost use Rattle.ps_fields.specs.Fields.{all_names};
 ghost use Rattle.ps_json.specs.Line.{body_or_empty, is_line_field, line_of, line_of_members};
 ghost use Rattle.ps_json.specs.Shown.{shown};
 
-use crate::fields::{take, take_text, take_whole};
 use ps_base::OutOfMemory;
+use ps_fields::{take, take_text, take_whole};
 use serde_json::{Map, Value};
 use std::alloc::Global;
 

@@ -1,6 +1,7 @@
 // What each call asks, by the names in its path, its query and the fields of its body.
 
 pub mod acknowledging;
+pub mod fields;
 pub mod listing;
 pub mod naming;
 pub mod publishing;

@@ -4,22 +4,13 @@
 mod batch_line;
 mod bodies;
 mod call;
-mod durations;
-mod fields;
-mod kinds;
 mod masks;
 mod missing;
 mod named;
-mod paths;
 mod print;
 mod read_error;
 mod reply;
-mod rows;
 mod settings;
-mod shapes;
-mod tables;
-mod timestamps;
-mod unknown;
 
 pub use batch_line::{BatchLine, read_batch_line};
 pub use call::{CallKind, command};

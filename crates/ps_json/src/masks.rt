@@ -2,9 +2,9 @@
 ghost use Rattle.std.specs.Prelude.{◌≡◌, IfOk, map};
 ghost use Rattle.ps_json.specs.Masks as spec;
 
-use crate::rows::Object;
 use ps_base::OutOfMemory;
 use ps_config::Mask;
+use ps_fields::Object;
 use std::alloc::Global;
 
 /// The names between the commas of a mask.

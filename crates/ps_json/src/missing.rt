@@ -1,14 +1,11 @@
 // Settings of resources that aren't built, or that the service leaves out.
 ghost use Rattle.std.specs.Prelude.{◌≡◌, ◌++◌, IfOk, fold, map};
 ghost use Rattle.serde_json.specs.View.{view, members_view};
-ghost use Rattle.ps_json.specs.Tables.{least, lesser};
+ghost use Rattle.ps_fields.specs.Paths.{least, lesser};
 ghost use Rattle.ps_json.specs.Missing as spec;
 
-use crate::fields::is_filled;
-use crate::rows::Object;
-use crate::shapes::path_in;
-use crate::tables::lesser;
 use ps_base::{OutOfMemory, Text};
+use ps_fields::{Object, is_filled, lesser, path_in};
 use serde_json::{Map, Value};
 use std::alloc::Global;
 

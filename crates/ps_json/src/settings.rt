@@ -2,38 +2,28 @@
 ghost use Rattle.std.specs.Prelude.{◌≡◌, IfOk, codes, option_and_then};
 ghost use Rattle.serde_json.specs.Find.{get_member};
 ghost use Rattle.serde_json.specs.View.{members_view};
-ghost use Rattle.ps_model.specs.Checks.{filter_setting_fault, new_sub_fault};
+ghost use Rattle.ps_fields.specs.Fields.{object_in};
+ghost use Rattle.ps_fields.specs.Kinds.{duration_value};
 ghost use Rattle.ps_json.specs.Checks.{Reads};
-ghost use Rattle.ps_json.specs.Fields.{object_in};
-ghost use Rattle.ps_json.specs.Kinds.{duration_value};
 ghost use Rattle.ps_json.specs.Settings as spec;
 
-use crate::fields::{field, object_in};
-use crate::kinds::{duration_in, flag, map, text, whole};
 use crate::read_error::{ReadError, refused};
-use ps_base::{Labels, OutOfMemory, Reason, Text};
+use ps_base::{Labels, OutOfMemory, Text};
 use ps_config::{
     DEFAULT_ACK_SECONDS, DEFAULT_EXPIRATION, DEFAULT_RETENTION, Mask, apply_sub, apply_topic,
     check_sub, check_topic,
 };
-use ps_filter::{Filter, FilterError};
-use ps_model::{SubConfig, TopicConfig};
+use ps_fields::{duration_in, field, flag, map, object_in, text, whole};
+use ps_model::{SubConfig, TopicConfig, check_new_sub};
 use serde_json::{Map, Value};
 use std::alloc::Global;
-
-/// The masks of every setting of a topic, and of those of a subscription that are checked before and after its filter.
-const WHOLE: Mask = Mask(511);
-
-const BEFORE_FILTER: Mask = Mask(31);
-
-const BEHIND_FILTER: Mask = Mask(480);
 
 /// The settings of a new topic, or the first one that breaks a limit.
 pub fn new_topic(alloc: Global, fields: &Map<String, Value>) -> Result<TopicConfig, ReadError>
     ensures { Reads result (spec.new_topic (members_view fields.now.entries)) }
 {
     let config = topic_in(alloc, fields)?;
-    match check_topic(&config, WHOLE) {
+    match check_topic(&config, Mask::WHOLE) {
         Some(reason) => Err(refused(reason)),
         None => Ok(config),
     }
@@ -61,7 +51,7 @@ pub fn new_subscription(alloc: Global, fields: &Map<String, Value>) -> Result<Su
     ensures { Reads result (spec.new_subscription (members_view fields.now.entries)) }
 {
     let config = subscription_in(alloc, fields)?;
-    match new_fault(alloc, &config)? {
+    match check_new_sub(alloc, &config)? {
         Some(reason) => Err(refused(reason)),
         None => Ok(config),
     }
@@ -81,42 +71,6 @@ pub fn changed_subscription(
     match check_sub(&config, mask) {
         Some(reason) => Err(refused(reason)),
         None => Ok(config),
-    }
-}
-
-/// The first limit that the settings of a new subscription break. Fails only if out of memory.
-fn new_fault(alloc: Global, config: &SubConfig) -> Result<Option<Reason>, OutOfMemory>
-    ensures { IfOk result (λ fault. fault ≡ new_sub_fault config.now) }
-{
-    match check_sub(config, BEFORE_FILTER) {
-        None => fault_from_filter(alloc, config),
-        Some(fault) => Ok(Some(fault)),
-    }
-}
-
-/// The first limit that the filter or a setting behind it breaks. Fails only if out of memory.
-fn fault_from_filter(alloc: Global, config: &SubConfig) -> Result<Option<Reason>, OutOfMemory>
-    ensures { IfOk result (λ fault. fault ≡ spec.fault_from_filter config.now) }
-{
-    match filter_fault(alloc, config.filter.as_str())? {
-        None => Ok(check_sub(config, BEHIND_FILTER)),
-        fault => Ok(fault),
-    }
-}
-
-/// Why a text that isn't empty is no filter. Fails only if out of memory.
-fn filter_fault(alloc: Global, filter: &str) -> Result<Option<Reason>, OutOfMemory>
-    ensures { IfOk result (λ fault. fault ≡ filter_setting_fault filter.now) }
-{
-    if filter.is_empty() {
-        return Ok(None);
-    }
-    match Filter::read(alloc, filter) {
-        Ok(_) => Ok(None),
-        Err(FilterError::TooLong) => Ok(Some(Reason::FilterTooLong)),
-        Err(FilterError::Mixed { at }) => Ok(Some(Reason::FilterMixed(at))),
-        Err(FilterError::Syntax { at }) => Ok(Some(Reason::FilterSyntax(at))),
-        Err(FilterError::OutOfMemory) => Err(OutOfMemory),
     }
 }
 

@@ -1,19 +1,16 @@
 // An acknowledgement.
-ghost use Rattle.std.specs.Prelude.{◌≡◌, IfOk, is_none, map};
-ghost use Rattle.std.specs.List.{position};
-ghost use Rattle.serde_json.specs.Find.{as_str};
+ghost use Rattle.std.specs.Prelude.{◌≡◌, IfOk, map};
 ghost use Rattle.serde_json.specs.View.{view, members_view};
 ghost use Rattle.ps_json.specs.AckIds.{ack_id_of};
-ghost use Rattle.ps_json.specs.Checks.{Reads, checked};
-ghost use Rattle.ps_json.specs.Deliveries.{acknowledge_checks, acknowledge_command, id_of, ids_read};
+ghost use Rattle.ps_json.specs.Checks.{Reads};
+ghost use Rattle.ps_json.specs.Deliveries as spec;
 
-use crate::kinds::list;
-use crate::paths::item_path;
-use crate::read_error::{ReadError, refused, shape};
-use crate::tables::{Table, least_unknown};
+use crate::bodies::fields::check_fields;
+use crate::bodies::subscription::subscription_at;
+use crate::read_error::{ReadError, refused};
 use ps_base::{AckId, List, OutOfMemory, Reason};
+use ps_fields::{Object, list};
 use ps_model::Command;
-use ps_names::SubName;
 use serde_json::{Map, Value};
 use std::alloc::Global;
 
@@ -23,38 +20,28 @@ pub fn acknowledge(
     name: &str,
     fields: &Map<String, Value>,
 ) -> Result<Command, ReadError>
-    ensures { Reads result
-        (checked (acknowledge_checks name.now (members_view fields.now.entries))
-        (acknowledge_command name.now (members_view fields.now.entries))) }
+    ensures { Reads result (spec.acknowledge name.now (members_view fields.now.entries)) }
 {
-    let Some(subscription) = SubName::read(alloc, name)? else {
-        return Err(refused(Reason::Name));
-    };
-    let Some(items) = list(fields, "ackIds") else {
-        return Err(shape(alloc, "ackIds")?);
-    };
-    if let Some(place) = first_without_text(items) {
-        return Err(refused(Reason::Shape(item_path(alloc, "ackIds", place)?)));
-    }
-    if let Some(path) = least_unknown(alloc, Table::Acknowledge, fields)? {
-        return Err(refused(Reason::UnknownField(path)));
-    }
+    let subscription = subscription_at(alloc, name)?;
+    check_fields(alloc, Object::Acknowledge, fields)?;
+    let ids = ids_in(alloc, fields)?;
+    Ok(Command::Acknowledge { subscription, ids })
+}
+
+/// The ids of an acknowledgement, or a refusal if there is none or an item is none.
+fn ids_in(alloc: Global, fields: &Map<String, Value>) -> Result<List<AckId>, ReadError>
+    ensures { Reads result (spec.ids_asked (members_view fields.now.entries)) }
+{
+    let items = list(fields, "ackIds").unwrap_or(&[]);
     match read_ids(alloc, items)? {
-        Some(ids) => Ok(Command::Acknowledge { subscription, ids }),
+        Some(ids) => Ok(ids),
         None => Err(refused(Reason::AckIds)),
     }
 }
 
-/// The place of the first item that is no text.
-fn first_without_text(items: &[Value]) -> Option<usize>
-    ensures { result ≡ position (λ item. is_none (as_str (view item))) items.now }
-{
-    items.iter().position(|item| !item.is_string())
-}
-
 /// The ids that these items are, if there is one and each is one. Fails only if out of memory.
 fn read_ids(alloc: Global, items: &[Value]) -> Result<Option<List<AckId>>, OutOfMemory>
-    ensures { IfOk result (λ ids. ids ≡ ids_read (map view items.now)) }
+    ensures { IfOk result (λ ids. ids ≡ spec.ids_read (map view items.now)) }
 {
     if items.is_empty() {
         return Ok(None);
@@ -71,7 +58,7 @@ fn read_ids(alloc: Global, items: &[Value]) -> Result<Option<List<AckId>>, OutOf
 
 /// The id whose text this value is.
 fn id_of(item: &Value) -> Option<AckId>
-    ensures { result ≡ id_of (view item.now) }
+    ensures { result ≡ spec.id_of (view item.now) }
 {
     match item {
         Value::String(text) => ack_id(text.as_str()),

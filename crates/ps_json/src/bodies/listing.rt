@@ -4,16 +4,14 @@ ghost use Rattle.ps_json.specs.Checks.{Reads};
 ghost use Rattle.ps_json.specs.Listing as spec;
 
 use crate::bodies::naming::topic_in;
-use crate::kinds::whole_text;
 use crate::named::{PathNames, Query};
 use crate::read_error::{ReadError, refused};
 use ps_base::{Duplicate, OutOfMemory, Reason, Text};
+use ps_config::MOST_OF_PAGE;
+use ps_fields::whole_text;
 use ps_model::{Command, Paging};
 use ps_names::ProjectName;
 use std::alloc::Global;
-
-/// The most items of a page.
-const MOST_ITEMS: u32 = 1_000;
 
 /// The command that lists the topics of a project, or the first check that is broken.
 pub fn list_topics(alloc: Global, path: &PathNames, query: &Query) -> Result<Command, ReadError>
@@ -86,7 +84,11 @@ fn size_of(size: i64) -> Option<u32>
     if size < 0 {
         return None;
     }
-    Some(u32::try_from(size).unwrap_or(MOST_ITEMS).min(MOST_ITEMS))
+    Some(
+        u32::try_from(size)
+            .unwrap_or(MOST_OF_PAGE)
+            .min(MOST_OF_PAGE),
+    )
 }
 
 /// The token, and an empty text if the query has none.

@@ -1,47 +1,57 @@
 // A publish.
 ghost use Rattle.std.specs.Prelude.{◌≡◌, IfOk, map};
 ghost use Rattle.serde_json.specs.View.{view, members_view};
+ghost use Rattle.ps_base.specs.declared.refusal.Refusal.TheVariants.{InvalidArgument};
+ghost use Rattle.ps_base.specs.declared.reason.Reason.TheVariants as reason;
+ghost use Rattle.ps_json.specs.declared.read_error.ReadError.TheVariants as error;
 ghost use Rattle.ps_json.specs.Checks.{Reads, checked};
-ghost use Rattle.ps_json.specs.Publishing.{all_shapes, members_in, message_of, message_shapes, publish_checks, publish_command, unknown_in_all};
-ghost use Rattle.ps_json.specs.Tables.{least};
+ghost use Rattle.ps_json.specs.Publishing as spec;
 
-use crate::kinds::{bytes, list, map, text};
-use crate::paths::{Place, item_path, path_in};
+use crate::bodies::fields::check_known;
+use crate::bodies::topic::topic_at;
 use crate::read_error::{ReadError, refused, shape};
-use crate::tables::{Table, least_unknown, least_with};
 use ps_base::{List, OutOfMemory, Reason, Text};
+use ps_fields::{Object, bytes, item_into, item_path, list, map, path_in, text};
 use ps_message::{Message, check_publish};
 use ps_model::Command;
-use ps_names::TopicName;
 use serde_json::{Map, Value};
 use std::alloc::Global;
 
 /// The command that publishes to the topic of this name, or the first check that is broken.
 pub fn publish(alloc: Global, name: &str, fields: &Map<String, Value>) -> Result<Command, ReadError>
-    ensures { Reads result
-        (checked (publish_checks name.now (members_view fields.now.entries))
-        (publish_command name.now (members_view fields.now.entries))) }
+    ensures { Reads result (spec.publish name.now (members_view fields.now.entries)) }
 {
-    let Some(topic) = TopicName::read(alloc, name)? else {
-        return Err(refused(Reason::Name));
-    };
-    let Some(items) = list(fields, "messages") else {
-        return Err(shape(alloc, "messages")?);
-    };
-    let messages = read_messages(alloc, items)?;
-    if let Some(path) = least_unknown_of_all(alloc, fields, items)? {
-        return Err(refused(Reason::UnknownField(path)));
-    }
-    if let Err(fault) = check_publish(messages.as_slice()) {
-        return Err(refused(fault.reason));
-    }
+    let topic = topic_at(alloc, name)?;
+    let messages = messages_in(alloc, fields)?;
+    check_known(alloc, Object::Publish, fields)?;
+    check_limits(messages.as_slice())?;
     Ok(Command::Publish { topic, messages })
+}
+
+/// The messages of a body, or the first field with another kind of value.
+fn messages_in(alloc: Global, fields: &Map<String, Value>) -> Result<List<Message>, ReadError>
+    ensures { Reads result (spec.messages_in (members_view fields.now.entries)) }
+{
+    match list(fields, "messages") {
+        Some(items) => read_messages(alloc, items),
+        None => Err(shape(alloc, "messages")?),
+    }
+}
+
+/// Refuses messages that break a limit.
+fn check_limits(messages: &[Message]) -> Result<(), ReadError>
+    ensures { Reads result (spec.within_limits messages.now) }
+{
+    match check_publish(messages) {
+        Ok(()) => Ok(()),
+        Err(fault) => Err(refused(fault.reason)),
+    }
 }
 
 /// The messages that these items are, or the first field with another kind of value.
 fn read_messages(alloc: Global, items: &[Value]) -> Result<List<Message>, ReadError>
     ensures { Reads result
-        (checked (all_shapes (map view items.now)) (map (λ item. message_of (members_in (view item))) items.now)) }
+        (checked (spec.all_shapes (map view items.now)) (map (λ item. spec.message_of (spec.members_in (view item))) items.now)) }
 {
     let mut messages = List::new(alloc);
     for (place, item) in items.iter().enumerate() {
@@ -52,20 +62,19 @@ fn read_messages(alloc: Global, items: &[Value]) -> Result<List<Message>, ReadEr
 
 fn read_message(alloc: Global, place: usize, item: &Value) -> Result<Message, ReadError>
     ensures { Reads result
-        (checked (message_shapes (place, view item.now)) (message_of (members_in (view item.now)))) }
+        (checked (spec.message_shapes (place, view item.now)) (spec.message_of (spec.members_in (view item.now)))) }
 {
     let Some(fields) = item.as_object() else {
         return Err(refused(Reason::Shape(item_path(alloc, "messages", place)?)));
     };
-    let place = Place::Message(place);
     let Some(payload) = bytes(alloc, fields, "data")? else {
-        return Err(refused(Reason::Shape(path_in(alloc, place, "data")?)));
+        return Err(shape_in_message(alloc, place, "data")?);
     };
     let Some(attributes) = map(alloc, fields, "attributes")? else {
-        return Err(refused(Reason::Shape(path_in(alloc, place, "attributes")?)));
+        return Err(shape_in_message(alloc, place, "attributes")?);
     };
     let Some(key) = text(fields, "orderingKey") else {
-        return Err(refused(Reason::Shape(path_in(alloc, place, "orderingKey")?)));
+        return Err(shape_in_message(alloc, place, "orderingKey")?);
     };
     Ok(Message {
         payload,
@@ -74,20 +83,12 @@ fn read_message(alloc: Global, place: usize, item: &Value) -> Result<Message, Re
     })
 }
 
-/// The least path of an unknown field of the body or of a message. Fails only if out of memory.
-fn least_unknown_of_all(
-    alloc: Global,
-    fields: &Map<String, Value>,
-    items: &[Value],
-) -> Result<Option<Text>, OutOfMemory>
-    ensures { IfOk result (λ path. path
-        ≡ least (unknown_in_all (members_view fields.now.entries) (map view items.now))) }
+/// The error of another kind of value in this field of the message at this place. Fails only if out of memory.
+fn shape_in_message(alloc: Global, place: usize, name: &str) -> Result<ReadError, OutOfMemory>
+    ensures { IfOk result (λ e. e
+        ≡ error.Refused (InvalidArgument (reason.Shape (spec.field_path place name.now)))) }
 {
-    let mut least = least_unknown(alloc, Table::Publish, fields)?;
-    for (place, item) in items.iter().enumerate() {
-        if let Some(message) = item.as_object() {
-            least = least_with(alloc, Table::Message, Place::Message(place), message, least)?;
-        }
-    }
-    Ok(least)
+    let at = item_into(alloc, "messages", place)?;
+    let path = path_in(alloc, at.as_str(), name)?;
+    Ok(refused(Reason::Shape(path)))
 }

@@ -1,4 +1,4 @@
-// What calls on topics and on subscriptions have in common: a resource, and its fields in the body.
+// What calls that create or update a resource have in common.
 ghost use Rattle.std.specs.Prelude.{◌≡◌, codes, map};
 ghost use Rattle.serde_json.specs.Data.{no_members};
 ghost use Rattle.serde_json.specs.Find.{get_member};
@@ -6,21 +6,14 @@ ghost use Rattle.serde_json.specs.View.{members_view};
 ghost use Rattle.ps_json.specs.Checks.{Reads};
 ghost use Rattle.ps_json.specs.Bodies as spec;
 
-use crate::fields::{field, object_in};
-use crate::kinds::text;
 use crate::masks::mask_of;
 use crate::missing::least_unbuilt;
 use crate::read_error::{ReadError, refused};
-use crate::rows::Object;
-use crate::shapes::first_wrong;
-use crate::unknown::least_unknown;
 use ps_base::{Reason, Refusal};
 use ps_config::Mask;
+use ps_fields::{Object, field, object_in, text};
 use serde_json::{Map, Value};
 use std::alloc::Global;
-
-/// How deep a body has objects with listed fields: a resource in an update, and a policy in it.
-const DEEPEST: u32 = 3;
 
 /// Refuses what isn't built of what the fields of a resource ask for and a mask names.
 pub fn check_built(
@@ -35,23 +28,6 @@ pub fn check_built(
 {
     match least_unbuilt(alloc, object, at, fields, names)? {
         Some(path) => Err(ReadError::Refused(Refusal::Unimplemented(path))),
-        None => Ok(()),
-    }
-}
-
-/// Refuses a body with a value of another kind or an unknown field.
-pub fn check_fields(
-    alloc: Global,
-    object: Object,
-    fields: &Map<String, Value>,
-) -> Result<(), ReadError>
-    ensures { Reads result (spec.well_formed object (members_view fields.now.entries)) }
-{
-    if let Some(path) = first_wrong(alloc, DEEPEST, object, "", fields)? {
-        return Err(refused(Reason::Shape(path)));
-    }
-    match least_unknown(alloc, DEEPEST, object, "", fields, None)? {
-        Some(path) => Err(refused(Reason::UnknownField(path))),
         None => Ok(()),
     }
 }

@@ -5,15 +5,13 @@ ghost use Rattle.ps_json.specs.Checks.{Reads, name_read};
 ghost use Rattle.ps_json.specs.Creations.{create_subscription, topic_read};
 ghost use Rattle.ps_json.specs.Updates.{update_subscription};
 
-use crate::bodies::resource::{
-    check_built, check_fields, check_name, mask_in, read_mask, resource_in,
-};
-use crate::kinds::text;
+use crate::bodies::fields::check_fields;
+use crate::bodies::resource::{check_built, check_name, mask_in, read_mask, resource_in};
 use crate::masks::names_in;
 use crate::read_error::{ReadError, refused};
-use crate::rows::Object;
 use crate::settings::{changed_subscription, new_subscription};
 use ps_base::Reason;
+use ps_fields::{Object, text};
 use ps_model::Command;
 use ps_names::{SubName, TopicName};
 use serde_json::{Map, Value};

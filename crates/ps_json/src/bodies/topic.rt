@@ -5,14 +5,13 @@ ghost use Rattle.ps_json.specs.Checks.{Reads, name_read};
 ghost use Rattle.ps_json.specs.Creations.{create_topic};
 ghost use Rattle.ps_json.specs.Updates.{update_topic};
 
-use crate::bodies::resource::{
-    check_built, check_fields, check_name, mask_in, read_mask, resource_in,
-};
+use crate::bodies::fields::check_fields;
+use crate::bodies::resource::{check_built, check_name, mask_in, read_mask, resource_in};
 use crate::masks::names_in;
 use crate::read_error::{ReadError, refused};
-use crate::rows::Object;
 use crate::settings::{changed_topic, new_topic};
 use ps_base::Reason;
+use ps_fields::Object;
 use ps_model::Command;
 use ps_names::TopicName;
 use serde_json::{Map, Value};

@@ -1,7 +1,7 @@
 use Rattle.std.proofs.Common.{◌≡◌, true, None, Some, codes, option_map, string_bytes, ap, ◌∙◌, sym, rules}
 use Rattle.serde_json.specs.View.{view, members_view}
 use Rattle.serde_json.specs.Find.{get_member}
-use Rattle.ps_json.specs.Fields.{all_names, text_field}
+use Rattle.ps_fields.specs.Fields.{all_names, text_field}
 use Rattle.ps_json.specs.Line.{is_line_field, body_or_empty}
 use Rattle.ps_json.specs.Shown.{shown}
 use Rattle.ps_json.proofs.LineLemmas.{after_at, after_verb, after_path, no_verb, no_path, whole_line}

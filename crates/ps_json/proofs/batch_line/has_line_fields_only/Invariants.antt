@@ -1,7 +1,7 @@
 use Rattle.std.proofs.Common.{◌≡◌, string_bytes}
 use Rattle.std.specs.List.{list_all}
 use Rattle.serde_json.specs.View.{members_view}
-use Rattle.ps_json.specs.Fields.{all_names}
+use Rattle.ps_fields.specs.Fields.{all_names}
 use Rattle.ps_json.specs.Line.{is_line_field}
 use Rattle.ps_json.proofs.batch_line.has_line_fields_only.Given as goal
 

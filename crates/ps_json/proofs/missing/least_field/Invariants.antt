@@ -1,6 +1,6 @@
 use Rattle.std.proofs.Common.{◌≡◌, fold}
 use Rattle.serde_json.specs.View.{members_view}
-use Rattle.ps_json.specs.Tables.{lesser}
+use Rattle.ps_fields.specs.Paths.{lesser}
 use Rattle.ps_json.specs.Missing.{asked_unbuilt}
 use Rattle.ps_json.proofs.missing.least_field.Given as goal
 

@@ -1,6 +1,6 @@
 use Rattle.std.proofs.Common.{◌≡◌, drop, fold, map}
+use Rattle.ps_fields.specs.Paths.{least, lesser}
 use Rattle.ps_json.specs.Missing.{masked_unbuilt}
-use Rattle.ps_json.specs.Tables.{least, lesser}
 use Rattle.ps_json.proofs.missing.least_masked.Given as goal
 
 -- the least so far, and the names that are left

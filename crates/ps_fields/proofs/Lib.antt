@@ -1,0 +1,4 @@
+pub mod DurationLemmas
+pub mod FieldLemmas
+pub mod KindLemmas
+pub mod ShapeLemmas
