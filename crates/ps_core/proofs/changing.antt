@@ -1,7 +1,4 @@
-pub mod Same
 pub mod Lists
-pub mod Numbers
-pub mod Releasing
 pub mod Leaving
 pub mod Topics
 pub mod Deleting

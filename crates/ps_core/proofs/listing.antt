@@ -1,5 +1,4 @@
 pub mod Sorting
-pub mod Paging
 pub mod Fronts
 pub mod Listed
 pub mod Topics

@@ -1,10 +1,3 @@
-pub mod Rows
-pub mod Entering
-pub mod Numbers
-pub mod Keeping
-pub mod Holders
-pub mod Members
-pub mod Tables
 pub mod World
 pub mod Had
 pub mod Steady

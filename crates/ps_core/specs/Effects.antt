@@ -1,13 +1,11 @@
 -- What each command does to a state.
-use Rattle.std.specs.Prelude.{ℕ, ◌+◌, Bool, true, false, ◌&&◌, not, nat_eq, List, [], ◌∷◌, ◌++◌, Option, Some, None, length, map, filter, if◌then◌else◌}
+use Rattle.std.specs.Prelude.{ℕ, ◌+◌, Bool, false, not, nat_eq, List, [], ◌∷◌, ◌++◌, length, map, filter, if◌then◌else◌}
 use Rattle.std.specs.List.{list_any}
 use Rattle.ps_config.specs.Masks.{masked_topic, masked_sub}
 use Rattle.ps_config.specs.declared.config.SubConfig.{SubConfig}
 use Rattle.ps_config.specs.declared.config.TopicConfig.{TopicConfig}
 use Rattle.ps_config.specs.declared.mask.Mask.{Mask}
-use Rattle.ps_filter.specs.Filters.{meets}
 use Rattle.ps_message.specs.declared.message.Message.{Message}
-use Rattle.ps_model.specs.declared.mark.Slot.{Slot}
 use Rattle.ps_model.specs.declared.mark.Handed.{Handed}
 use Rattle.ps_model.specs.declared.mark.Ticket.{Ticket}
 use Rattle.ps_model.specs.declared.world.MessageRow.{MessageRow}
@@ -16,15 +14,9 @@ use Rattle.ps_model.specs.Acknowledging.{acknowledge}
 use Rattle.ps_model.specs.Choice.{choice, handed, lent}
 use Rattle.ps_model.specs.Failing.{fail, is_due}
 use Rattle.ps_model.specs.Forwarding.{message_rows}
-use Rattle.ps_model.specs.Seeking.{fresh}
-use Rattle.ps_model.specs.Worlds.{item_at}
-use Rattle.ps_sub.specs.Showing.{has}
-use Rattle.ps_core.specs.declared.kept_subscription.KeptSubscription.{KeptSubscription}
+use Rattle.ps_tables.specs.declared.kept_subscription.KeptSubscription.{KeptSubscription}
 use Rattle.ps_core.specs.State.{State}
-
--- the subscription with other slots
-abbrev pub with_slots : KeptSubscription → List Slot → KeptSubscription
-with_slots x slots = record x { sub = record x.sub { slots = slots } }
+use Rattle.ps_tables.specs.Subscriptions.{with_slots, filter_of, is_had, enter_subscription}
 
 -- ---- settling
 
@@ -60,11 +52,6 @@ drop_topic number s = record s { topics = filter (λ (r : TopicRow). not (nat_eq
 
 -- ---- subscriptions
 
--- what a subscription keeps of its filter's text, and none if every message enters
-abbrev pub filter_of : List ℕ → Option (List ℕ)
-filter_of [] = None
-filter_of (c ∷ cs) = Some (c ∷ cs)
-
 abbrev pub new_subscription : ℕ → List ℕ → ℕ → SubConfig → KeptSubscription
 new_subscription number name topic config =
     record { number = number; name = name; topic = topic; detached = false; filter = filter_of config.filter; sub = record { slots = []; config = config; next_lease = 1 } }
@@ -80,14 +67,6 @@ put_subscription x s = record s { subscriptions = map (λ (y : KeptSubscription)
 abbrev pub configure_subscription : Mask → SubConfig → KeptSubscription → KeptSubscription
 configure_subscription mask config x = record x { sub = record x.sub { config = masked_sub mask x.sub.config config } }
 
--- nothing enters any more, and everything that had entered is gone
-abbrev pub detach_subscription : KeptSubscription → KeptSubscription
-detach_subscription x = record x { detached = true; sub = record x.sub { slots = [] } }
-
--- some subscription has the message
-abbrev pub is_had : List KeptSubscription → ℕ → Bool
-is_had subscriptions number = list_any (λ (x : KeptSubscription). has x.sub.slots number) subscriptions
-
 -- the messages that no subscription has go
 abbrev pub let_go : State → State
 let_go s = record s { messages = filter (λ (m : MessageRow). is_had s.subscriptions m.number) s.messages }
@@ -96,22 +75,6 @@ abbrev pub drop_subscription : ℕ → State → State
 drop_subscription number s = let_go (record s { subscriptions = filter (λ (x : KeptSubscription). not (nat_eq x.number number)) s.subscriptions })
 
 -- ---- messages
-
--- a message that entered
-abbrev pub slot_in : MessageRow → Slot
-slot_in m = record { item = item_at m.number m; mark = fresh }
-
--- of new messages those that match the subscription's filter
-abbrev pub wanted_of : KeptSubscription → List MessageRow → List MessageRow
-wanted_of x rows = filter (λ (m : MessageRow). meets x.sub.config.filter m.message) rows
-
--- the subscription is one of the topic with this number, and isn't detached
-abbrev pub is_attached : ℕ → KeptSubscription → Bool
-is_attached topic x = nat_eq x.topic topic && not x.detached
-
--- the messages that a subscription of their topic wants enter it
-abbrev pub enter_subscription : ℕ → List MessageRow → KeptSubscription → KeptSubscription
-enter_subscription topic rows x = if is_attached topic x then with_slots x (x.sub.slots ++ map slot_in (wanted_of x rows)) else x
 
 -- new messages of the topic with this number; those stay that some subscription has
 abbrev pub add_published : ℕ → ℕ → List Message → State → State

@@ -1,51 +1,30 @@
 -- What a core keeps beside its state, to find things and to know when to look.
-use Rattle.std.specs.Prelude.{◌≡◌, ◌<◌, ◌&&◌, false, ℕ, Bool, List, Option, map, find, option_map}
-use Rattle.std.specs.BTreeMap.{get_by_text, values}
+use Rattle.std.specs.Prelude.{◌≡◌, ◌<◌, false, ℕ, Bool, List, Option, map, find, option_map}
+use Rattle.std.specs.BTreeMap.{values}
 use Rattle.std.specs.List.{AllByRecursion}
 use Rattle.std.specs.Str.{bytes_eq}
 use Rattle.ps_model.specs.declared.world.MessageRow.{MessageRow}
 use Rattle.ps_model.specs.declared.world.TopicRow.{TopicRow}
-use Rattle.ps_model.specs.Lists.{tally}
-use Rattle.ps_sub.specs.Showing.{has}
-use Rattle.ps_core.specs.declared.kept_subscription.KeptSubscription.{KeptSubscription}
-use Rattle.ps_core.specs.declared.name_index.NameIndex.{NameIndex}
-use Rattle.ps_core.specs.declared.tables.KeptMessage.{KeptMessage}
-use Rattle.ps_core.specs.declared.tables.KeptTopic.{KeptTopic}
-use Rattle.ps_core.specs.declared.tables.Tables.{Tables}
-use Rattle.ps_core.specs.State.{State, number_of, topic_number}
+use Rattle.ps_tables.specs.declared.kept_subscription.KeptSubscription.{KeptSubscription}
+use Rattle.ps_tables.specs.declared.tables.KeptMessage.{KeptMessage}
+use Rattle.ps_tables.specs.declared.tables.KeptTopic.{KeptTopic}
+use Rattle.ps_tables.specs.declared.tables.Tables.{Tables}
+use Rattle.ps_core.specs.State.{State, topic_number}
+use Rattle.ps_tables.specs.Subscriptions.{number_of}
 use Rattle.ps_core.specs.Steady.{IsSteady}
-use Rattle.ps_core.specs.Effects.{is_any_due, is_attached}
-
--- each value stands at its own number
-abbrev pub IsNumbered : {A : Type 0} → (A → ℕ) → List (ℕ × A) → Type 0
-IsNumbered number entries = map (λ e. e.0) entries ≡ map (λ e. number e.1) entries
+use Rattle.ps_core.specs.Effects.{is_any_due}
+use Rattle.ps_tables.specs.Numbers.{IsNumbered}
+use Rattle.ps_tables.specs.Members.{has_name, numbered, HasMembers, holders_of}
 
 abbrev pub has_topic_name : List ℕ → TopicRow → Bool
 has_topic_name name r = bytes_eq r.name name
 
-abbrev pub has_name : List ℕ → KeptSubscription → Bool
-has_name name x = bytes_eq x.name name
-
--- the number of the topic with this name, of the subscription with this name, and of one that is attached to a topic
+-- the number of the topic with this name, and of the subscription with this name
 abbrev pub topic_at : List ℕ → List TopicRow → Option ℕ
 topic_at name topics = option_map topic_number (find (has_topic_name name) topics)
 
 abbrev pub subscription_at : List ℕ → List KeptSubscription → Option ℕ
 subscription_at name subscriptions = option_map number_of (find (has_name name) subscriptions)
-
-abbrev pub attached_at : ℕ → List ℕ → List KeptSubscription → Option ℕ
-attached_at topic name subscriptions = option_map number_of (find (λ (x : KeptSubscription). has_name name x && is_attached topic x) subscriptions)
-
-abbrev pub numbered : NameIndex → List ℕ → Option ℕ
-numbered index name = get_by_text index.numbers name
-
--- a topic has its attached subscriptions by name
-abbrev pub HasMembers : List KeptSubscription → KeptTopic → Type 0
-HasMembers subscriptions x = (name : List ℕ) → numbered x.subs name ≡ attached_at x.row.number name subscriptions
-
--- how many subscriptions have a message
-abbrev pub holders_of : List KeptSubscription → ℕ → ℕ
-holders_of subscriptions number = tally (λ (x : KeptSubscription). has x.sub.slots number) subscriptions
 
 abbrev pub IsCounted : List KeptSubscription → KeptMessage → Type 0
 IsCounted subscriptions x = x.holders ≡ holders_of subscriptions x.row.number

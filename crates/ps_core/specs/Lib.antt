@@ -4,14 +4,11 @@ pub mod Steady
 pub mod Effects
 pub mod Keeping
 pub mod Calls
-pub mod Entering
-pub mod Acceptance
 pub mod Applying
 pub mod Counts
 pub mod Carrying
 pub mod Delivering
 pub mod Stats
 pub mod Settling
-pub mod TableEdits
 pub mod Pages
 pub mod Changing

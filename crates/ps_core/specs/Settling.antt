@@ -2,9 +2,9 @@
 use Rattle.std.specs.Prelude.{ℕ, Bool, nat_eq, List, map, filter, if◌then◌else◌}
 use Rattle.std.specs.List.{list_any}
 use Rattle.ps_model.specs.Failing.{is_due}
-use Rattle.ps_core.specs.declared.kept_subscription.KeptSubscription.{KeptSubscription}
+use Rattle.ps_tables.specs.declared.kept_subscription.KeptSubscription.{KeptSubscription}
 use Rattle.ps_core.specs.Effects.{settle_subscription}
-use Rattle.ps_core.specs.State.{number_of}
+use Rattle.ps_tables.specs.Subscriptions.{number_of}
 
 -- a lease of the subscription is over
 abbrev pub has_due : ℕ → KeptSubscription → Bool

@@ -7,7 +7,7 @@ use Rattle.ps_model.specs.declared.world.SubRow.{SubRow}
 use Rattle.ps_model.specs.declared.world.MessageRow.{MessageRow}
 use Rattle.ps_model.specs.declared.world.MarkRow.{MarkRow}
 use Rattle.ps_model.specs.Worlds.{row_of}
-use Rattle.ps_core.specs.declared.kept_subscription.KeptSubscription.{KeptSubscription}
+use Rattle.ps_tables.specs.declared.kept_subscription.KeptSubscription.{KeptSubscription}
 
 -- topics, subscriptions and messages in order of their numbers; of the messages those that some subscription has
 pub record State : Type 0 where
@@ -25,9 +25,6 @@ sub_row x = record { number = x.number; name = x.name; topic = x.topic; config =
 
 abbrev pub slots_in : KeptSubscription → List Slot
 slots_in x = x.sub.slots
-
-abbrev pub number_of : KeptSubscription → ℕ
-number_of x = x.number
 
 abbrev pub topic_number : TopicRow → ℕ
 topic_number r = r.number

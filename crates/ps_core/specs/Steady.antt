@@ -13,9 +13,9 @@ use Rattle.ps_model.specs.Checks.{new_sub_fault}
 use Rattle.ps_model.specs.Sound.{Ordered}
 use Rattle.ps_model.specs.Worlds.{row_of, slot_of}
 use Rattle.ps_names.specs.Names.{is_topic_name, is_sub_name}
-use Rattle.ps_core.specs.declared.kept_subscription.KeptSubscription.{KeptSubscription}
+use Rattle.ps_tables.specs.declared.kept_subscription.KeptSubscription.{KeptSubscription}
 use Rattle.ps_core.specs.Built.{unbuilt_topic_setting, unbuilt_sub_setting}
-use Rattle.ps_core.specs.Effects.{filter_of, is_had}
+use Rattle.ps_tables.specs.Subscriptions.{filter_of, is_had}
 use Rattle.ps_core.specs.State.{State}
 
 -- the marks that there are so far: nothing is ahead, and nothing that is gone stays

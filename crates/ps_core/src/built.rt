@@ -3,7 +3,7 @@ ghost use Rattle.ps_base.specs.declared.reason.Reason.TheVariants.{UpdateMask};
 ghost use Rattle.ps_config.specs.Limits.{sub_fault, topic_fault};
 ghost use Rattle.ps_message.specs.Lists.{first_of};
 ghost use Rattle.ps_message.specs.Messages.{broken};
-ghost use Rattle.ps_model.specs.Checks.{argument_fault, as_read, filter_setting_fault, lease_seconds, new_sub_fault};
+ghost use Rattle.ps_model.specs.Checks.{argument_fault, as_read, lease_seconds};
 ghost use Rattle.ps_config.specs.Masks.{default_sub, default_topic, is_mask, masked_sub, masked_topic};
 ghost use Rattle.ps_core.specs.Calls.{is_tick};
 ghost use Rattle.ps_core.specs.Built.{unbuilt, unbuilt_topic_setting, unbuilt_sub_setting, unbuilt_topic_mask, unbuilt_sub_mask};
@@ -13,9 +13,8 @@ use ps_config::{
     DEFAULT_RETENTION, LEAST_ACK_SECONDS, MOST_ACK_SECONDS, Mask, apply_sub, apply_topic,
     check_sub, check_topic,
 };
-use ps_filter::{Filter, FilterError};
 use ps_message::{MOST_BYTES, MOST_MESSAGES, check_publish};
-use ps_model::{Command, SubConfig, TopicConfig};
+use ps_model::{Command, SubConfig, TopicConfig, check_new_sub};
 use std::alloc::Global;
 
 fn unbuilt_topic_setting(config: &TopicConfig) -> Option<&'static str>
@@ -111,34 +110,6 @@ pub fn unbuilt(command: &Command) -> Option<&'static str>
     }
 }
 
-/// The problem of a filter's text, if it has one. An empty text lets every message enter.
-fn filter_fault(alloc: Global, text: &str) -> Result<Option<Reason>, OutOfMemory>
-    ensures { IfOk result (λ fault. fault ≡ filter_setting_fault text.now) }
-{
-    if text.is_empty() {
-        return Ok(None);
-    }
-    match Filter::read(alloc, text) {
-        Ok(_filter) => Ok(None),
-        Err(FilterError::TooLong) => Ok(Some(Reason::FilterTooLong)),
-        Err(FilterError::Mixed { at }) => Ok(Some(Reason::FilterMixed(at))),
-        Err(FilterError::Syntax { at }) => Ok(Some(Reason::FilterSyntax(at))),
-        Err(FilterError::OutOfMemory) => Err(OutOfMemory),
-    }
-}
-
-/// The first check that the settings of a new subscription break. Those of dead letters and retries aren't built, so
-/// the filter's check is the last one.
-fn new_sub_fault(alloc: Global, config: &SubConfig) -> Result<Option<Reason>, OutOfMemory>
-    requires { unbuilt_sub_setting config.now ≡ None }
-    ensures { IfOk result (λ fault. fault ≡ new_sub_fault config.now) }
-{
-    if let Some(reason) = check_sub(config, Mask::WHOLE) {
-        return Ok(Some(reason));
-    }
-    filter_fault(alloc, config.filter.as_str())
-}
-
 /// The first check that an update of a topic breaks.
 fn topic_update_fault(mask: Mask, config: &TopicConfig) -> Option<Reason>
     ensures { result ≡ first_of (broken (not (is_mask 2 mask)) UpdateMask ∷ topic_fault mask config.now ∷ []) }
@@ -167,7 +138,7 @@ pub fn argument_fault(alloc: Global, command: &Command) -> Result<Option<Reason>
     match command {
         Command::CreateTopic { config, .. } => Ok(check_topic(config, Mask::WHOLE)),
         Command::UpdateTopic { mask, config, .. } => Ok(topic_update_fault(*mask, config)),
-        Command::CreateSubscription { config, .. } => new_sub_fault(alloc, config),
+        Command::CreateSubscription { config, .. } => check_new_sub(alloc, config),
         Command::UpdateSubscription { mask, config, .. } => Ok(sub_update_fault(*mask, config)),
         Command::Publish { messages, .. } => match check_publish(messages.as_slice()) {
             Ok(()) => Ok(None),

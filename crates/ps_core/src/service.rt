@@ -1,4 +1,5 @@
-ghost use Rattle.std.specs.Prelude.{◌≡◌, ◌^◌, ◌≤◌};
+ghost use Rattle.std.specs.Prelude.{◌≡◌, ◌^◌, ◌≤◌, [], None, List, ℕ};
+ghost use Rattle.std.specs.BTreeMap.{get_by_text};
 ghost use Rattle.ps_model.specs.Commands.{is_full};
 ghost use Rattle.ps_model.specs.Step as rules;
 
@@ -16,8 +17,8 @@ mod publishing;
 mod settling;
 mod updating;
 
-use crate::tables::Tables;
-use ps_base::Moment;
+use ps_base::{Moment, OutOfMemory};
+use ps_tables::Tables;
 use std::alloc::Global;
 use std::marker::Model;
 
@@ -102,4 +103,16 @@ impl Core {
         self.clock = at.milliseconds();
         self.count += 1;
     }
+}
+
+/// Empties the tables of a core for which there was no memory to change them, and returns the error.
+fn give_up(tables: &mut Tables, alloc: Global, error: OutOfMemory) -> OutOfMemory
+    ensures topics { tables.new.topics.entries ≡ [] }
+    ensures topic_numbers { (name : List ℕ) → get_by_text tables.new.topic_numbers.numbers name ≡ None }
+    ensures subscriptions { tables.new.subscriptions.entries ≡ [] }
+    ensures subscription_numbers { (name : List ℕ) → get_by_text tables.new.subscription_numbers.numbers name ≡ None }
+    ensures messages { tables.new.messages.entries ≡ [] }
+{
+    *tables = Tables::new(alloc);
+    error
 }

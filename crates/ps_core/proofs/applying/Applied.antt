@@ -25,6 +25,7 @@ use Rattle.ps_core.specs.Effects.{settle_state, is_any_due, recorded_at}
 use Rattle.ps_core.specs.Carrying.{IsCarried}
 use Rattle.ps_core.specs.Applying.{Applies}
 use Rattle.ps_core.specs.Calls.{is_tick, is_step, is_accepted, next, refusal_by, refusal_of}
+use Rattle.ps_tables.proofs.lists.Options.{none-of}
 use Rattle.ps_core.proofs.judging.Changed.{judged-changed, test-seen}
 use Rattle.ps_core.proofs.judging.Refused.{no_refusal, refused-outcome, room_left}
 use Rattle.ps_core.proofs.judging.Rests.{judged-moved}
@@ -132,14 +133,10 @@ pub record IsTried (s made : State) (at : ℕ) (c : Command) (moved changed : Bo
   pub told : Reply
   pub carried : IsCarried at c (settle_state at s) made told changed
 
-none-is : {A : Type 0} (o : Option A) → is_some o ≡ false → o ≡ None
-none-is None h = refl
-none-is (Some x) h = absurd (cc)
-
 -- what an entry that nothing refuses brings to carry it out: room, and a command that is built and has no fault
 pub can-carry : (s : State) (c : Command) → IsSteady s → is_some (refusal_of (seen s) c) ≡ false → is_normal c ≡ true → (s.count < 2 ^ 50) × ((unbuilt c ≡ None) × (argument_fault c ≡ None))
 can-carry s c steady good normal =
-    let open_command = no_refusal (seen s) c (none-is (refusal_of (seen s) c) good) in
+    let open_command = no_refusal (seen s) c (none-of (refusal_of (seen s) c) good) in
     (room_left s steady open_command.1.1, (open_command.0, ap argument_fault (sym (normal-read c normal)) ∙ open_command.1.0))
 
 -- the moment is the entry's own
@@ -152,18 +149,18 @@ tried-read s made at c moved changed tried built = subst (λ (x : Command). IsCa
 
 pub tried-changed : (s made : State) (at : ℕ) (c : Command) (moved : Bool) → IsTried s made at c moved true → Applies (seen s) (record { now = at; command = c }) true (seen made)
 tried-changed s made at c moved tried =
-    let open_command = no_refusal (seen s) c (none-is (refusal_of (seen s) c) tried.good) in
+    let open_command = no_refusal (seen s) c (none-of (refusal_of (seen s) c) tried.good) in
     let room = room_left s tried.steady open_command.1.1 in
     applies (seen s) (record { now = at; command = c }) (seen made) (taken-changed s made at c tried.told tried.steady room open_command.0 open_command.1.0 tried.normal tried.moment (tried-read s made at c moved true tried open_command.0))
 
 pub tried-not : (s made : State) (new : World) (at : ℕ) (c : Command) (moved : Bool) → IsTried s made at c moved false → (is_tick c && moved) ≡ false → Applies (seen s) (record { now = at; command = c }) false new
 tried-not s made new at c moved tried none =
-    let open_command = no_refusal (seen s) c (none-is (refusal_of (seen s) c) tried.good) in
+    let open_command = no_refusal (seen s) c (none-of (refusal_of (seen s) c) tried.good) in
     let room = room_left s tried.steady open_command.1.1 in
     applies-not (seen s) (record { now = at; command = c }) new (not-changed s made at c tried.told tried.steady room (tried-read s made at c moved false tried open_command.0) (ap (λ (b : Bool). is_tick c && b) (sym tried.due) ∙ none))
 
 pub tried-moved : (s made : State) (at : ℕ) (c : Command) (moved : Bool) → IsTried s made at c moved false → (is_tick c && moved) ≡ true → Applies (seen s) (record { now = at; command = c }) true (seen (recorded_at at made))
 tried-moved s made at c moved tried both =
-    let open_command = no_refusal (seen s) c (none-is (refusal_of (seen s) c) tried.good) in
+    let open_command = no_refusal (seen s) c (none-of (refusal_of (seen s) c) tried.good) in
     let room = room_left s tried.steady open_command.1.1 in
     applies (seen s) (record { now = at; command = c }) (seen (recorded_at at made)) (taken-moved s made at c tried.told tried.steady room open_command.0 tried.moment (tried-read s made at c moved false tried open_command.0) (ap (λ (b : Bool). is_tick c && b) (sym tried.due) ∙ both))

@@ -4,22 +4,26 @@ use Rattle.std.specs.List.{AllByRecursion}
 use Rattle.std.specs.Map.{lookup}
 use Rattle.std.specs.BTreeMap.{is_at, values}
 use Rattle.std.specs.Str.{bytes_eq}
-use Rattle.std.proofs.lemmas.Bool.{eq-eqb, ne_eqb, eqb-true}
+use Rattle.std.proofs.lemmas.Bool.{ne_eqb, eqb-true}
 use Rattle.ps_model.specs.declared.world.TopicRow.{TopicRow}
 use Rattle.ps_model.specs.declared.world.SubRow.{SubRow}
 use Rattle.ps_model.specs.Sound.{Ordered}
 use Rattle.ps_model.specs.Worlds.{sub_named}
 use Rattle.ps_sub.specs.Showing.{has}
-use Rattle.ps_core.specs.declared.kept_subscription.KeptSubscription.{KeptSubscription}
-use Rattle.ps_core.specs.declared.tables.KeptTopic.{KeptTopic}
-use Rattle.ps_core.specs.declared.tables.KeptMessage.{KeptMessage}
-use Rattle.ps_core.specs.declared.tables.Tables.{Tables}
-use Rattle.ps_core.specs.State.{State, number_of, topic_number, sub_row, seen}
-use Rattle.ps_core.specs.Effects.{is_any_due, is_attached}
+use Rattle.ps_tables.specs.declared.kept_subscription.KeptSubscription.{KeptSubscription}
+use Rattle.ps_tables.specs.declared.tables.KeptTopic.{KeptTopic}
+use Rattle.ps_tables.specs.declared.tables.KeptMessage.{KeptMessage}
+use Rattle.ps_tables.specs.declared.tables.Tables.{Tables}
+use Rattle.ps_core.specs.State.{State, topic_number, sub_row, seen}
+use Rattle.ps_tables.specs.Subscriptions.{number_of, is_attached}
+use Rattle.ps_core.specs.Effects.{is_any_due}
 use Rattle.ps_core.specs.Steady.{IsSteady}
-use Rattle.ps_core.specs.Keeping.{IsKept, IsNumbered, IsCounted, HasMembers, numbered, has_name, has_topic_name, topic_at, subscription_at, attached_at, holders_of, the_row}
-use Rattle.ps_base.proofs.Lists.{each-found, each-then}
-use Rattle.ps_core.proofs.marks.Numbered.{numbered-found}
+use Rattle.ps_core.specs.Keeping.{IsKept, IsCounted, has_topic_name, topic_at, subscription_at, the_row}
+use Rattle.ps_tables.specs.Numbers.{IsNumbered}
+use Rattle.ps_tables.specs.Members.{HasMembers, numbered, has_name, attached_at, holders_of}
+use Rattle.ps_base.proofs.Lists.{each-then}
+use Rattle.ps_tables.proofs.numbers.Numbered.{numbered-found}
+use Rattle.ps_tables.proofs.numbers.Changes.{found-by-number}
 
 -- ---- look-ups in lists
 
@@ -31,20 +35,6 @@ find-in-map f test (x ∷ xs) = by (test (f x)) (find-in-map f test xs)
     by : (b : Bool) → find test (map f xs) ≡ option_map f (find (λ x. test (f x)) xs) → cond b (Some (f x)) (find test (map f xs)) ≡ option_map f (cond b (Some x) (find (λ x. test (f x)) xs))
     by true ih = refl
     by false ih = ih
-
--- one that some test finds is found by its number
-pub found-by-number : {A : Type 0} (number : A → ℕ) (test : A → Bool) (xs : List A) (x : A) → Ordered (λ a b. number a < number b) xs → find test xs ≡ Some x → find (λ y. nat_eq (number y) (number x)) xs ≡ Some x
-found-by-number number test [] x up is = absurd (cc (is))
-found-by-number number test (y ∷ ys) x up is = by (test y) is (found-by-number number test ys x up.1)
-  where
-    by : (b : Bool) → cond b (Some y) (find test ys) ≡ Some x → (find test ys ≡ Some x → find (λ y. nat_eq (number y) (number x)) ys ≡ Some x) → cond (nat_eq (number y) (number x)) (Some y) (find (λ y. nat_eq (number y) (number x)) ys) ≡ Some x
-    by true is ih =
-        let same : y ≡ x = cc (is) in
-        rw (eq-eqb (number y) (number x) (ap number same)) is
-    by false is ih =
-        let above : number y < number x = each-found (λ z. number y < number z) test ys x is up.0 in
-        let other : number y ≢ number x = omega (arith, above) in
-        rw (ne_eqb (number y) (number x) other) (ih is)
 
 -- ---- what is found by name
 

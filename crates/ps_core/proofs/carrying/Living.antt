@@ -18,17 +18,15 @@ use Rattle.ps_model.specs.Settling as rules
 use Rattle.ps_model.specs.Slots.{is_gone}
 use Rattle.ps_model.specs.Worlds.{hold_of, holds_of, window_of}
 use Rattle.ps_model.proofs.SameLemmas.{same-world, world-same}
-use Rattle.ps_core.specs.Effects.{is_had, let_go, recorded_at}
+use Rattle.ps_tables.specs.Subscriptions.{is_had}
+use Rattle.ps_core.specs.Effects.{let_go, recorded_at}
 use Rattle.ps_core.specs.State.{State, flat_marks, seen}
 use Rattle.ps_core.specs.Steady.{IsPlainMark, IsSteady}
+use Rattle.ps_tables.proofs.lists.Filtered.{filter-all}
 use Rattle.ps_core.proofs.settling.Expunging.{IsPlain, catch_up-rests, expire-rests, marks-each, marks-want, plain-here, plain-steady, release-rests, wants, window-none}
 
 abbrev is_here : MarkRow → Bool
 is_here r = not (is_gone r.mark)
-
-filter-all : {A : Type 0} (test : A → Bool) (xs : List A) → AllByRecursion (λ (x : A). test x ≡ true) xs → filter test xs ≡ xs
-filter-all test [] h = refl
-filter-all test (x ∷ xs) h = rw (h.0) (ap (λ (ys : List _). x ∷ ys) (filter-all test xs h.1))
 
 marks-here : (s : State) → IsPlain s → filter is_here (flat_marks s.subscriptions) ≡ flat_marks s.subscriptions
 marks-here s h =

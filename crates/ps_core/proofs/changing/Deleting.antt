@@ -12,10 +12,12 @@ use Rattle.ps_model.specs.Topics.{delete_topic_at}
 use Rattle.ps_model.proofs.SameLemmas.{same-world}
 use Rattle.ps_core.specs.Carrying.{CanRecord, IsCarried}
 use Rattle.ps_core.specs.Effects.{drop_topic, recorded_at}
-use Rattle.ps_core.specs.Keeping.{has_name, has_topic_name}
+use Rattle.ps_tables.specs.Members.{has_name}
+use Rattle.ps_core.specs.Keeping.{has_topic_name}
 use Rattle.ps_core.specs.State.{State, seen, sub_row, topic_number}
 use Rattle.ps_core.specs.Steady.{IsSteady}
-use Rattle.ps_core.proofs.carrying.Kept.{found-by-number, sub-named-seen}
+use Rattle.ps_tables.proofs.numbers.Changes.{found-by-number}
+use Rattle.ps_core.proofs.carrying.Kept.{sub-named-seen}
 use Rattle.ps_core.proofs.carrying.Living.{live-seen}
 use Rattle.ps_core.proofs.carrying.Outcomes.{carried-left, carried-shown, outcome-open}
 use Rattle.ps_core.proofs.changing.Topics.{dropped-steady}

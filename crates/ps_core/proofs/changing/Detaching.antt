@@ -21,17 +21,19 @@ use Rattle.ps_model.specs.Slots.{is_gone}
 use Rattle.ps_model.specs.Subscriptions.{detach_at}
 use Rattle.ps_model.specs.Worlds.{put_sub, remark_at, remark_row, row_of, slot_of}
 use Rattle.ps_model.proofs.SameLemmas.{same-world}
-use Rattle.ps_core.specs.declared.kept_subscription.KeptSubscription.{KeptSubscription}
+use Rattle.ps_tables.specs.declared.kept_subscription.KeptSubscription.{KeptSubscription}
 use Rattle.ps_core.specs.Carrying.{CanRecord, IsCarried}
-use Rattle.ps_core.specs.Changing.{change_subscription, changed_at}
-use Rattle.ps_core.specs.Effects.{detach_subscription, let_go, recorded_at}
-use Rattle.ps_core.specs.Keeping.{has_name}
-use Rattle.ps_core.specs.State.{State, flat_marks, number_of, seen, sub_row}
+use Rattle.ps_core.specs.Changing.{change_subscription}
+use Rattle.ps_tables.specs.Numbers.{changed_at}
+use Rattle.ps_tables.specs.Subscriptions.{detach_subscription, number_of}
+use Rattle.ps_core.specs.Effects.{let_go, recorded_at}
+use Rattle.ps_tables.specs.Members.{has_name}
+use Rattle.ps_core.specs.State.{State, flat_marks, seen, sub_row}
 use Rattle.ps_core.specs.Steady.{IsPlainMark, IsSteady, IsSteadySubscription}
-use Rattle.ps_core.proofs.carrying.Kept.{find-in-map, found-by-number, sub-named-seen}
+use Rattle.ps_core.proofs.carrying.Kept.{find-in-map, sub-named-seen}
+use Rattle.ps_tables.proofs.numbers.Changes.{found-by-number, keeps-numbers, put-changes, same-number, unchanged}
 use Rattle.ps_core.proofs.carrying.Living.{live-seen}
 use Rattle.ps_core.proofs.carrying.Outcomes.{carried-made, carried-rests, finished-seen, outcome-open}
-use Rattle.ps_core.proofs.changing.Numbers.{keeps-numbers, put-changes, same-number, unchanged}
 use Rattle.ps_core.proofs.marks.OnePlace.{subs-put}
 use Rattle.ps_core.proofs.settling.Expunging.{IsPlain, plain-here, plain-steady}
 

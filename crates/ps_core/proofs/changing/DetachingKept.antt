@@ -7,22 +7,25 @@ use Rattle.ps_base.proofs.Lists.{each-found, each-map}
 use Rattle.ps_model.specs.Failing.{is_due}
 use Rattle.ps_names.specs.Names.{is_sub_name}
 use Rattle.ps_sub.specs.Showing.{marks}
-use Rattle.ps_core.specs.declared.kept_subscription.KeptSubscription.{KeptSubscription}
-use Rattle.ps_core.specs.declared.tables.Tables.{Tables}
-use Rattle.ps_core.specs.Changing.{change_subscription, changed_at, message_number, released, times}
-use Rattle.ps_core.specs.Effects.{detach_subscription, let_go}
-use Rattle.ps_core.specs.Keeping.{IsKept, IsNumbered, has_name, holders_of, numbered, state_of, subscription_at}
-use Rattle.ps_core.specs.State.{State, number_of}
+use Rattle.ps_tables.specs.declared.kept_subscription.KeptSubscription.{KeptSubscription}
+use Rattle.ps_tables.specs.declared.tables.Tables.{Tables}
+use Rattle.ps_core.specs.Changing.{change_subscription}
+use Rattle.ps_tables.specs.Numbers.{changed_at, IsNumbered}
+use Rattle.ps_tables.specs.Releasing.{message_number, released, times}
+use Rattle.ps_tables.specs.Subscriptions.{detach_subscription, number_of}
+use Rattle.ps_core.specs.Effects.{let_go}
+use Rattle.ps_core.specs.Keeping.{IsKept, state_of, subscription_at}
+use Rattle.ps_tables.specs.Members.{has_name, holders_of, numbered}
+use Rattle.ps_core.specs.State.{State}
 use Rattle.ps_core.specs.Steady.{IsSteadySubscription}
-use Rattle.ps_core.specs.TableEdits.{Detaches, LeavesTopic}
-use Rattle.ps_core.proofs.carrying.Kept.{found-by-number}
+use Rattle.ps_tables.specs.TableEdits.{Detaches, LeavesTopic}
+use Rattle.ps_tables.proofs.numbers.Changes.{found-by-number, same-number, set-changes}
 use Rattle.ps_core.proofs.changing.KeptLeft.{IsLeftTables, left-kept, left-view}
 use Rattle.ps_core.proofs.changing.LettingGo.{AreFewer}
 use Rattle.ps_core.proofs.changing.Members.{IsAlone, all-alone, attached-detached, name-is}
-use Rattle.ps_core.proofs.changing.Numbers.{same-number, set-changes}
 use Rattle.ps_core.proofs.changing.Times.{holders-detached, times-once}
-use Rattle.ps_core.proofs.marks.Numbered.{numbered-put-keys}
-use Rattle.ps_core.proofs.marks.Ordered.{ordered-map}
+use Rattle.ps_tables.proofs.numbers.Numbered.{numbered-put-keys}
+use Rattle.ps_tables.proofs.lists.Ordered.{ordered-map}
 
 -- ---- what a detached subscription leaves as it was
 

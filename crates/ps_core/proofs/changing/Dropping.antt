@@ -22,26 +22,32 @@ use Rattle.ps_model.specs.Worlds.{row_of}
 use Rattle.ps_model.proofs.SameLemmas.{same-world}
 use Rattle.ps_names.specs.Names.{is_sub_name}
 use Rattle.ps_sub.specs.Showing.{marks}
-use Rattle.ps_core.specs.declared.kept_subscription.KeptSubscription.{KeptSubscription}
-use Rattle.ps_core.specs.declared.name_index.NameIndex.{NameIndex}
-use Rattle.ps_core.specs.declared.tables.Tables.{Tables}
+use Rattle.ps_tables.specs.declared.kept_subscription.KeptSubscription.{KeptSubscription}
+use Rattle.ps_tables.specs.declared.name_index.NameIndex.{NameIndex}
+use Rattle.ps_tables.specs.declared.tables.Tables.{Tables}
 use Rattle.ps_core.specs.Carrying.{CanRecord, IsCarried}
-use Rattle.ps_core.specs.Changing.{message_number, released, times}
+use Rattle.ps_tables.specs.Releasing.{message_number, released, times}
 use Rattle.ps_core.specs.Effects.{drop_subscription, is_any_due, recorded_at}
-use Rattle.ps_core.specs.Keeping.{IsKept, IsNumbered, has_name, holders_of, numbered, subscription_at}
-use Rattle.ps_core.specs.State.{State, flat_marks, number_of, seen, sub_row}
+use Rattle.ps_core.specs.Keeping.{IsKept, subscription_at}
+use Rattle.ps_tables.specs.Numbers.{IsNumbered}
+use Rattle.ps_tables.specs.Members.{has_name, holders_of, numbered}
+use Rattle.ps_core.specs.State.{State, flat_marks, seen, sub_row}
+use Rattle.ps_tables.specs.Subscriptions.{number_of}
 use Rattle.ps_core.specs.Steady.{IsPlainMark, IsSteady, IsSteadySubscription}
-use Rattle.ps_core.specs.TableEdits.{LeavesTopic, RemovesName}
-use Rattle.ps_core.proofs.carrying.Kept.{find-in-map, found-by-number, sub-named-seen}
+use Rattle.ps_tables.specs.TableEdits.{LeavesTopic, RemovesName}
+use Rattle.ps_tables.proofs.lists.Filtered.{filter-mapped}
+use Rattle.ps_tables.proofs.lists.Ordered.{ordered-filter}
+use Rattle.ps_core.proofs.carrying.Kept.{find-in-map, sub-named-seen}
+use Rattle.ps_tables.proofs.numbers.Changes.{found-by-number}
 use Rattle.ps_core.proofs.carrying.Living.{live-seen}
 use Rattle.ps_core.proofs.carrying.Outcomes.{carried-made, outcome-open}
 use Rattle.ps_core.proofs.changing.Deleting.{taken-out}
 use Rattle.ps_core.proofs.changing.KeptLeft.{IsLeftTables}
 use Rattle.ps_core.proofs.changing.LettingGo.{AreFewer, left_with}
-use Rattle.ps_core.proofs.changing.Lists.{filter-swap, found-dropped, ordered-filter}
+use Rattle.ps_core.proofs.changing.Lists.{filter-swap, found-dropped}
 use Rattle.ps_core.proofs.changing.Members.{IsAlone, all-alone, attached-dropped, name-is}
 use Rattle.ps_core.proofs.changing.Times.{holders-dropped, times-once}
-use Rattle.ps_core.proofs.marks.Numbered.{numbered-remove-keys, numbered-removed}
+use Rattle.ps_tables.proofs.numbers.Numbered.{numbered-remove-keys, numbered-removed}
 use Rattle.ps_core.proofs.settling.Expunging.{IsPlain, plain-steady}
 
 -- those of another number
@@ -123,15 +129,6 @@ others-tables s name x next_end tables after view kept is topics topic_numbers e
 
 -- ---- the world
 
-rows-dropped : (n : ℕ) (ys : List KeptSubscription) → filter (λ (r : SubRow). not (nat_eq r.number n)) (map sub_row ys) ≡ map sub_row (others_of n ys)
-rows-dropped n [] = refl
-rows-dropped n (y ∷ ys) = by (nat_eq y.number n) (rows-dropped n ys)
-  where
-    by : (b : Bool) → filter (λ (r : SubRow). not (nat_eq r.number n)) (map sub_row ys) ≡ map sub_row (others_of n ys)
-        → cond (not b) (sub_row y ∷ filter (λ (r : SubRow). not (nat_eq r.number n)) (map sub_row ys)) (filter (λ (r : SubRow). not (nat_eq r.number n)) (map sub_row ys)) ≡ map sub_row (cond (not b) (y ∷ others_of n ys) (others_of n ys))
-    by true rest = rest
-    by false rest = ap (λ rs. sub_row y ∷ rs) rest
-
 -- the marks of one subscription go or stay together
 marks-of : (n k : ℕ) (slots : List Slot) (rest : List MarkRow) → filter (is_other n) (map (row_of k) slots ++ rest) ≡ (if nat_eq k n then filter (is_other n) rest else map (row_of k) slots ++ filter (is_other n) rest)
 marks-of n k [] rest = by (nat_eq k n)
@@ -169,7 +166,7 @@ module _ (at : ℕ) (name : List ℕ) (s : State) (x : KeptSubscription) (can : 
   }
 
   live-ruled : live ruled ≡ seen made
-  live-ruled = λ i. record (live-seen s h i) { subs = rows-dropped x.number s.subscriptions i; marks = live-marks i }
+  live-ruled = λ i. record (live-seen s h i) { subs = filter-mapped sub_row (λ (r : SubRow). not (nat_eq r.number x.number)) s.subscriptions i; marks = live-marks i }
     where
       live-marks : filter (λ (r : MarkRow). not (is_gone r.mark)) (filter (is_other x.number) (flat_marks s.subscriptions)) ≡ flat_marks (others_of x.number s.subscriptions)
       live-marks =

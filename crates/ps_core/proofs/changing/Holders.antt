@@ -3,11 +3,12 @@ use Rattle.std.proofs.Common.{◌≡◌, ◌+◌, ◌-◌, ℕ, Bool, true, fals
 use Rattle.std.specs.List.{AllByRecursion, cons_option}
 use Rattle.ps_model.specs.declared.world.MessageRow.{MessageRow}
 use Rattle.ps_sub.specs.Showing.{has}
-use Rattle.ps_core.specs.declared.kept_subscription.KeptSubscription.{KeptSubscription}
-use Rattle.ps_core.specs.declared.tables.KeptMessage.{KeptMessage}
-use Rattle.ps_core.specs.Changing.{released}
-use Rattle.ps_core.specs.Effects.{is_had}
-use Rattle.ps_core.specs.Keeping.{IsCounted, holders_of, the_message}
+use Rattle.ps_tables.specs.declared.kept_subscription.KeptSubscription.{KeptSubscription}
+use Rattle.ps_tables.specs.declared.tables.KeptMessage.{KeptMessage}
+use Rattle.ps_tables.specs.Releasing.{released}
+use Rattle.ps_tables.specs.Subscriptions.{is_had}
+use Rattle.ps_core.specs.Keeping.{IsCounted, the_message}
+use Rattle.ps_tables.specs.Members.{holders_of}
 
 -- a message is had if some subscription holds it
 had-counted : (xs : List KeptSubscription) (n : ℕ) → is_had xs n ≡ nat_lt 0 (holders_of xs n)

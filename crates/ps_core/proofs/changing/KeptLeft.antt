@@ -6,21 +6,25 @@ use Rattle.ps_base.proofs.Lists.{each-of-map}
 use Rattle.ps_model.specs.declared.world.MessageRow.{MessageRow}
 use Rattle.ps_model.specs.declared.world.TopicRow.{TopicRow}
 use Rattle.ps_model.specs.Sound.{Ordered}
-use Rattle.ps_core.specs.declared.kept_subscription.KeptSubscription.{KeptSubscription}
-use Rattle.ps_core.specs.declared.tables.KeptTopic.{KeptTopic}
-use Rattle.ps_core.specs.declared.tables.Tables.{Tables}
-use Rattle.ps_core.specs.Changing.{AreLeft, kept_number, message_number, released}
-use Rattle.ps_core.specs.Effects.{is_any_due, is_had}
-use Rattle.ps_core.specs.Keeping.{IsCounted, IsKept, IsNumbered, holders_of, numbered, state_of, subscription_at, the_message, the_row}
-use Rattle.ps_core.specs.State.{State, number_of}
-use Rattle.ps_core.specs.TableEdits.{HasOtherSubs, LeavesTopic, RemovesName}
+use Rattle.ps_tables.specs.declared.kept_subscription.KeptSubscription.{KeptSubscription}
+use Rattle.ps_tables.specs.declared.tables.KeptTopic.{KeptTopic}
+use Rattle.ps_tables.specs.declared.tables.Tables.{Tables}
+use Rattle.ps_core.specs.Changing.{AreLeft, kept_number}
+use Rattle.ps_tables.specs.Releasing.{message_number, released}
+use Rattle.ps_core.specs.Effects.{is_any_due}
+use Rattle.ps_tables.specs.Subscriptions.{is_had, number_of}
+use Rattle.ps_core.specs.Keeping.{IsCounted, IsKept, state_of, subscription_at, the_message, the_row}
+use Rattle.ps_tables.specs.Numbers.{IsNumbered}
+use Rattle.ps_tables.specs.Members.{holders_of, numbered}
+use Rattle.ps_core.specs.State.{State}
+use Rattle.ps_tables.specs.TableEdits.{HasOtherSubs, LeavesTopic, RemovesName}
+use Rattle.ps_tables.proofs.lists.Ordered.{ordered-of-map}
 use Rattle.ps_core.proofs.changing.Holders.{counted-left, rows-left}
 use Rattle.ps_core.proofs.changing.Leaving.{left-topics}
 use Rattle.ps_core.proofs.changing.LettingGo.{AreFewer, left_with, let_go-steady}
 use Rattle.ps_core.proofs.changing.Members.{IsWithout, members-left, rows-same}
-use Rattle.ps_core.proofs.changing.Numbers.{found-number}
-use Rattle.ps_core.proofs.changing.Topics.{ordered-of-map}
-use Rattle.ps_core.proofs.marks.Numbered.{numbered-put-keys}
+use Rattle.ps_tables.proofs.numbers.Changes.{found-number}
+use Rattle.ps_tables.proofs.numbers.Numbered.{numbered-put-keys}
 
 -- topics stay at their numbers
 topics-numbered : (topic : ℕ) (name : List ℕ) (old new : BTreeMap ℕ KeptTopic) → IsNumbered kept_number old.entries → LeavesTopic old topic name new → IsNumbered kept_number new.entries

@@ -6,13 +6,13 @@ use Rattle.std.specs.List.{AllByRecursion, AllZip}
 use Rattle.std.specs.Str.{bytes_eq}
 use Rattle.ps_base.proofs.Lists.{each-then, none-found}
 use Rattle.ps_model.specs.Sound.{Ordered}
-use Rattle.ps_core.specs.declared.name_index.NameIndex.{NameIndex}
-use Rattle.ps_core.specs.declared.tables.KeptTopic.{KeptTopic}
+use Rattle.ps_tables.specs.declared.name_index.NameIndex.{NameIndex}
+use Rattle.ps_tables.specs.declared.tables.KeptTopic.{KeptTopic}
 use Rattle.ps_core.specs.Changing.{AreLeft, IsLeft, kept_number}
-use Rattle.ps_core.specs.Keeping.{IsNumbered}
-use Rattle.ps_core.specs.TableEdits.{HasOtherSubs, LeavesTopic, RemovesName}
-use Rattle.ps_core.proofs.changing.Numbers.{same-number, set-changes}
-use Rattle.ps_core.proofs.marks.Numbered.{numbered-found}
+use Rattle.ps_tables.specs.Numbers.{IsNumbered}
+use Rattle.ps_tables.specs.TableEdits.{HasOtherSubs, LeavesTopic, RemovesName}
+use Rattle.ps_tables.proofs.numbers.Changes.{same-number, set-changes}
+use Rattle.ps_tables.proofs.numbers.Numbered.{numbered-found}
 
 zip-map : {A : Type 0} (R : A → A → Type 0) (f : A → A) (xs : List A) → AllByRecursion (λ x. R x (f x)) xs → AllZip R xs (map f xs)
 zip-map R f [] h = tt

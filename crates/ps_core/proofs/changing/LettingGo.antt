@@ -9,11 +9,12 @@ use Rattle.ps_model.specs.Sound.{Ordered}
 use Rattle.ps_model.specs.Worlds.{item_at, no_message}
 use Rattle.ps_names.specs.Names.{is_sub_name}
 use Rattle.ps_sub.specs.Showing.{has}
-use Rattle.ps_core.specs.declared.kept_subscription.KeptSubscription.{KeptSubscription}
-use Rattle.ps_core.specs.Effects.{is_had, let_go}
+use Rattle.ps_tables.specs.declared.kept_subscription.KeptSubscription.{KeptSubscription}
+use Rattle.ps_tables.specs.Subscriptions.{is_had}
+use Rattle.ps_core.specs.Effects.{let_go}
 use Rattle.ps_core.specs.State.{State}
 use Rattle.ps_core.specs.Steady.{IsJoined, IsSteady, IsSteadySubscription}
-use Rattle.ps_core.proofs.changing.Lists.{ordered-filter}
+use Rattle.ps_tables.proofs.lists.Ordered.{ordered-filter}
 
 -- subscriptions as steady as those of the state were
 pub record AreFewer (s : State) (ys : List KeptSubscription) : Type 0 where

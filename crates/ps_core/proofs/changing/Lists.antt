@@ -3,17 +3,9 @@ use Rattle.std.proofs.Common.{◌≡◌, ◌≢◌, ℕ, Bool, true, false, not,
 use Rattle.std.specs.List.{AllByRecursion}
 use Rattle.std.specs.Str.{bytes_eq}
 use Rattle.std.proofs.lemmas.Bool.{eq-eqb, false≢true}
-use Rattle.ps_base.proofs.Lists.{each-left, each-then}
+use Rattle.ps_base.proofs.Lists.{each-then}
 use Rattle.ps_model.specs.Sound.{Ordered}
 use Rattle.ps_model.proofs.SameLemmas.{exact-bytes}
-
-pub ordered-filter : {A : Type 0} (R : A → A → Type 0) (test : A → Bool) (xs : List A) → Ordered R xs → Ordered R (filter test xs)
-ordered-filter R test [] h = tt
-ordered-filter R test (x ∷ xs) h = by (test x) (ordered-filter R test xs h.1)
-  where
-    by : (b : Bool) → Ordered R (filter test xs) → Ordered R (cond b (x ∷ filter test xs) (filter test xs))
-    by true rest = (each-left (R x) test xs h.0, rest)
-    by false rest = rest
 
 pub filter-swap : {A : Type 0} (p q : A → Bool) (xs : List A) → filter p (filter q xs) ≡ filter q (filter p xs)
 filter-swap p q [] = refl

@@ -5,16 +5,17 @@ use Rattle.std.specs.Str.{bytes_eq}
 use Rattle.std.proofs.lemmas.Bool.{eq-eqb, eqb-true, false≢true}
 use Rattle.ps_base.proofs.Lists.{each-then-both, found-passes}
 use Rattle.ps_model.proofs.SameLemmas.{exact-bytes}
-use Rattle.ps_core.specs.declared.kept_subscription.KeptSubscription.{KeptSubscription}
-use Rattle.ps_core.specs.declared.tables.KeptTopic.{KeptTopic}
-use Rattle.ps_core.specs.Changing.{AreLeft, changed_at}
-use Rattle.ps_core.specs.Effects.{detach_subscription, is_attached}
-use Rattle.ps_core.specs.Keeping.{HasMembers, attached_at, has_name, the_row}
-use Rattle.ps_core.specs.State.{State, number_of}
+use Rattle.ps_tables.specs.declared.kept_subscription.KeptSubscription.{KeptSubscription}
+use Rattle.ps_tables.specs.declared.tables.KeptTopic.{KeptTopic}
+use Rattle.ps_core.specs.Changing.{AreLeft}
+use Rattle.ps_tables.specs.Numbers.{changed_at}
+use Rattle.ps_tables.specs.Subscriptions.{detach_subscription, is_attached, number_of}
+use Rattle.ps_tables.specs.Members.{HasMembers, attached_at, has_name}
+use Rattle.ps_core.specs.Keeping.{the_row}
+use Rattle.ps_core.specs.State.{State}
 use Rattle.ps_core.specs.Steady.{IsSteady}
-use Rattle.ps_core.proofs.carrying.Kept.{found-by-number}
+use Rattle.ps_tables.proofs.numbers.Changes.{found-by-number, same-number}
 use Rattle.ps_core.proofs.changing.Lists.{same-name}
-use Rattle.ps_core.proofs.changing.Numbers.{same-number}
 
 -- whatever has its name or its number is this subscription
 abbrev pub IsAlone : KeptSubscription → KeptSubscription → Type 0

@@ -9,15 +9,16 @@ use Rattle.ps_model.specs.declared.world.MessageRow.{MessageRow}
 use Rattle.ps_model.specs.Failing.{is_due}
 use Rattle.ps_model.specs.Worlds.{row_of, slot_of}
 use Rattle.ps_names.specs.Names.{is_sub_name}
-use Rattle.ps_core.specs.declared.kept_subscription.KeptSubscription.{KeptSubscription}
-use Rattle.ps_core.specs.declared.tables.Tables.{Tables}
-use Rattle.ps_core.specs.Changing.{KeepsRest, change_subscription, changed_at, with_settings}
-use Rattle.ps_core.specs.Effects.{filter_of, is_had}
-use Rattle.ps_core.specs.Keeping.{IsKept, IsNumbered, state_of, the_message, the_row}
-use Rattle.ps_core.specs.State.{State, number_of}
+use Rattle.ps_tables.specs.declared.kept_subscription.KeptSubscription.{KeptSubscription}
+use Rattle.ps_tables.specs.declared.tables.Tables.{Tables}
+use Rattle.ps_core.specs.Changing.{KeepsRest, change_subscription, with_settings}
+use Rattle.ps_tables.specs.Numbers.{changed_at, IsNumbered}
+use Rattle.ps_tables.specs.Subscriptions.{filter_of, is_had, number_of}
+use Rattle.ps_core.specs.Keeping.{IsKept, state_of, the_message, the_row}
+use Rattle.ps_core.specs.State.{State}
 use Rattle.ps_core.specs.Steady.{HasGoodSettings, IsJoined, IsSteady, IsSteadySubscription}
 use Rattle.ps_core.proofs.carrying.Kept.{IsSameHolder, kept-changed}
-use Rattle.ps_core.proofs.marks.Ordered.{ordered-map}
+use Rattle.ps_tables.proofs.lists.Ordered.{ordered-map}
 
 module _ (n : ℕ) (config : SubConfig) where
   abbrev put : KeptSubscription → KeptSubscription

@@ -5,11 +5,11 @@ use Rattle.std.proofs.lemmas.Bool.{ne_eqb, eqb-true}
 use Rattle.ps_model.specs.declared.mark.Slot.{Slot}
 use Rattle.ps_model.specs.Sound.{Ordered}
 use Rattle.ps_sub.specs.Showing.{has, marks}
-use Rattle.ps_core.specs.declared.kept_subscription.KeptSubscription.{KeptSubscription}
-use Rattle.ps_core.specs.Changing.{changed_at, times}
-use Rattle.ps_core.specs.Effects.{detach_subscription}
-use Rattle.ps_core.specs.Keeping.{holders_of}
-use Rattle.ps_core.specs.State.{number_of}
+use Rattle.ps_tables.specs.declared.kept_subscription.KeptSubscription.{KeptSubscription}
+use Rattle.ps_tables.specs.Numbers.{changed_at}
+use Rattle.ps_tables.specs.Releasing.{times}
+use Rattle.ps_tables.specs.Subscriptions.{detach_subscription, number_of}
+use Rattle.ps_tables.specs.Members.{holders_of}
 
 zero : (k : ℕ) → 0 + k ≡ k
 zero k = grind arith

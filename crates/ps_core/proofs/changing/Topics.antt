@@ -5,27 +5,29 @@ use Rattle.std.specs.BTreeMap.{BTreeMap, is_at, values}
 use Rattle.std.specs.List.{AllByRecursion}
 use Rattle.std.specs.Map.{remove_entry, values_of}
 use Rattle.std.specs.Str.{bytes_eq}
-use Rattle.ps_base.proofs.Lists.{each-left, each-map, each-of-map, each-then, each-then-both, found-passes}
+use Rattle.ps_base.proofs.Lists.{each-left, each-map, each-then, each-then-both, found-passes}
 use Rattle.ps_config.specs.declared.config.TopicConfig.{TopicConfig}
 use Rattle.ps_model.specs.declared.world.TopicRow.{TopicRow}
 use Rattle.ps_model.specs.Sound.{Ordered}
 use Rattle.ps_model.proofs.SameLemmas.{exact-bytes}
-use Rattle.ps_core.specs.declared.kept_subscription.KeptSubscription.{KeptSubscription}
-use Rattle.ps_core.specs.declared.name_index.NameIndex.{NameIndex}
-use Rattle.ps_core.specs.declared.tables.KeptTopic.{KeptTopic}
-use Rattle.ps_core.specs.declared.tables.Tables.{Tables}
+use Rattle.ps_tables.specs.declared.kept_subscription.KeptSubscription.{KeptSubscription}
+use Rattle.ps_tables.specs.declared.name_index.NameIndex.{NameIndex}
+use Rattle.ps_tables.specs.declared.tables.KeptTopic.{KeptTopic}
+use Rattle.ps_tables.specs.declared.tables.Tables.{Tables}
 use Rattle.ps_core.specs.Built.{unbuilt_topic_setting}
-use Rattle.ps_core.specs.Changing.{change_topic, changed_at, kept_number, with_config, with_topic_config}
+use Rattle.ps_core.specs.Changing.{change_topic, kept_number, with_config, with_topic_config}
+use Rattle.ps_tables.specs.Numbers.{changed_at, IsNumbered}
 use Rattle.ps_core.specs.Effects.{drop_topic}
-use Rattle.ps_core.specs.Keeping.{HasMembers, IsKept, IsNumbered, has_topic_name, state_of, the_message, the_row, topic_at}
+use Rattle.ps_tables.specs.Members.{HasMembers}
+use Rattle.ps_core.specs.Keeping.{IsKept, has_topic_name, state_of, the_message, the_row, topic_at}
 use Rattle.ps_core.specs.State.{State, topic_number}
 use Rattle.ps_core.specs.Steady.{IsJoined, IsSteady, IsSteadySubscription}
-use Rattle.ps_core.specs.TableEdits.{RemovesName}
-use Rattle.ps_core.proofs.changing.Lists.{found-dropped, ordered-filter, same-name}
-use Rattle.ps_core.proofs.changing.Numbers.{same-number}
-use Rattle.ps_core.proofs.carrying.Kept.{found-by-number}
-use Rattle.ps_core.proofs.marks.Numbered.{numbered-remove-keys, numbered-removed}
-use Rattle.ps_core.proofs.marks.Ordered.{ordered-map}
+use Rattle.ps_tables.specs.TableEdits.{RemovesName}
+use Rattle.ps_tables.proofs.lists.Filtered.{filter-mapped}
+use Rattle.ps_core.proofs.changing.Lists.{found-dropped, same-name}
+use Rattle.ps_tables.proofs.numbers.Changes.{same-number, found-by-number}
+use Rattle.ps_tables.proofs.numbers.Numbered.{numbered-remove-keys, numbered-removed}
+use Rattle.ps_tables.proofs.lists.Ordered.{ordered-map, ordered-of-map, ordered-filter}
 
 -- a subscription reads nothing of the topics
 subscription-stays : (s : State) (topics : List TopicRow) (x : KeptSubscription) → IsSteadySubscription s x → IsSteadySubscription (record s { topics = topics }) x
@@ -113,10 +115,6 @@ configured-steady n config s built h =
     one r true was = built
     one r false was = was
 
-pub ordered-of-map : {A B : Type 0} (S : B → B → Type 0) (f : A → B) (xs : List A) → Ordered S (map f xs) → Ordered (λ a b. S (f a) (f b)) xs
-ordered-of-map S f [] h = tt
-ordered-of-map S f (x ∷ xs) h = (each-of-map (S (f x)) f xs h.0, ordered-of-map S f xs h.1)
-
 same-members : (n : ℕ) (config : TopicConfig) (subscriptions : List KeptSubscription) (b : Bool) (x : KeptTopic) → HasMembers subscriptions x → HasMembers subscriptions (if b then with_topic_config config x else x)
 same-members n config subscriptions true x h = h
 same-members n config subscriptions false x h = h
@@ -154,15 +152,6 @@ kept-configured s n next_end config tables topics built kept entries is = record
 
 -- ---- a topic goes
 
-rows-dropped : (n : ℕ) (ys : List KeptTopic) → map the_row (filter (λ (y : KeptTopic). not (nat_eq (kept_number y) n)) ys) ≡ filter (λ (r : TopicRow). not (nat_eq r.number n)) (map the_row ys)
-rows-dropped n [] = refl
-rows-dropped n (y ∷ ys) = by (nat_eq y.row.number n) refl (rows-dropped n ys)
-  where
-    by : (b : Bool) → nat_eq y.row.number n ≡ b → map the_row (filter (λ (z : KeptTopic). not (nat_eq (kept_number z) n)) ys) ≡ filter (λ (r : TopicRow). not (nat_eq r.number n)) (map the_row ys)
-        → map the_row (filter (λ (z : KeptTopic). not (nat_eq (kept_number z) n)) (y ∷ ys)) ≡ filter (λ (r : TopicRow). not (nat_eq r.number n)) (map the_row (y ∷ ys))
-    by true e rest = rw e rest
-    by false e rest = rw e (ap (λ rs. y.row ∷ rs) rest)
-
 pub dropped-steady : (n : ℕ) (s : State) → IsSteady s → IsSteady (drop_topic n s)
 dropped-steady n s h =
     let stays : TopicRow → Bool = λ r. not (nat_eq r.number n) in
@@ -194,7 +183,7 @@ dropped-view now count next_topic next_sub next_message n next_end tables after 
   next_sub = next_sub;
   next_message = next_message;
   topics = (ap (λ es. map the_row (values_of es)) topics
-      ∙ ap (map the_row) (numbered-removed kept_number n tables.topics.entries kept.topics (ordered-of-map (λ (a b : TopicRow). a.number < b.number) the_row (values tables.topics) kept.steady.topics)) ∙ rows-dropped n (values tables.topics)) i;
+      ∙ ap (map the_row) (numbered-removed kept_number n tables.topics.entries kept.topics (ordered-of-map (λ (a b : TopicRow). a.number < b.number) the_row (values tables.topics) kept.steady.topics)) ∙ sym (filter-mapped the_row (λ (r : TopicRow). not (nat_eq r.number n)) (values tables.topics))) i;
   subscriptions = values (subscriptions i);
   messages = map the_message (values (messages i));
 }

@@ -18,18 +18,20 @@ use Rattle.ps_model.specs.Showing.{topic_shown}
 use Rattle.ps_model.specs.Topics.{update_topic_at}
 use Rattle.ps_model.specs.Worlds.{put_topic, topic_named}
 use Rattle.ps_model.proofs.SameLemmas.{exact-topic-config, same-world}
-use Rattle.ps_core.specs.declared.tables.KeptTopic.{KeptTopic}
-use Rattle.ps_core.specs.declared.tables.Tables.{Tables}
+use Rattle.ps_tables.specs.declared.tables.KeptTopic.{KeptTopic}
+use Rattle.ps_tables.specs.declared.tables.Tables.{Tables}
 use Rattle.ps_core.specs.Carrying.{CanRecord, IsCarried}
-use Rattle.ps_core.specs.Changing.{change_topic, changed_at, with_config}
+use Rattle.ps_core.specs.Changing.{change_topic, with_config}
+use Rattle.ps_tables.specs.Numbers.{changed_at}
 use Rattle.ps_core.specs.Effects.{recorded_at}
-use Rattle.ps_core.specs.Keeping.{IsKept, has_topic_name, numbered, the_row}
+use Rattle.ps_core.specs.Keeping.{IsKept, has_topic_name, the_row}
+use Rattle.ps_tables.specs.Members.{numbered}
 use Rattle.ps_core.specs.State.{State, seen, topic_number}
 use Rattle.ps_core.specs.Steady.{IsSteady}
-use Rattle.ps_core.proofs.carrying.Kept.{IsTopicAt, found-by-number, topic-nowhere, topic-there}
+use Rattle.ps_core.proofs.carrying.Kept.{IsTopicAt, topic-nowhere, topic-there}
+use Rattle.ps_tables.proofs.numbers.Changes.{found-by-number, keeps-numbers, put-changes, unchanged}
 use Rattle.ps_core.proofs.carrying.Living.{live-seen}
 use Rattle.ps_core.proofs.carrying.Outcomes.{carried-left, carried-rests, carried-shown, finished-seen, outcome-open}
-use Rattle.ps_core.proofs.changing.Numbers.{keeps-numbers, put-changes, unchanged}
 
 module _ (at : ℕ) (name : List ℕ) (mask : Mask) (config : TopicConfig) (s : State) (can : CanRecord at s) (good : argument_fault (UpdateTopic name mask config) ≡ None) where
   pub topic-missing : topic_named (seen s) name ≡ None → IsCarried at (UpdateTopic name mask config) s s (Refused (NotFound name)) false

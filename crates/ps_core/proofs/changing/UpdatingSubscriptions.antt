@@ -21,19 +21,22 @@ use Rattle.ps_model.specs.declared.world.MarkRow.{MarkRow}
 use Rattle.ps_model.specs.Slots.{is_gone}
 use Rattle.ps_model.specs.Worlds.{put_sub, row_of}
 use Rattle.ps_model.proofs.SameLemmas.{exact-sub-config, same-world}
-use Rattle.ps_core.specs.declared.kept_subscription.KeptSubscription.{KeptSubscription}
-use Rattle.ps_core.specs.declared.tables.Tables.{Tables}
+use Rattle.ps_tables.specs.declared.kept_subscription.KeptSubscription.{KeptSubscription}
+use Rattle.ps_tables.specs.declared.tables.Tables.{Tables}
 use Rattle.ps_core.specs.Built.{unbuilt_sub_mask}
 use Rattle.ps_core.specs.Carrying.{CanRecord, IsCarried}
-use Rattle.ps_core.specs.Changing.{change_subscription, changed_at, with_settings}
+use Rattle.ps_core.specs.Changing.{change_subscription, with_settings}
+use Rattle.ps_tables.specs.Numbers.{changed_at}
 use Rattle.ps_core.specs.Effects.{recorded_at}
-use Rattle.ps_core.specs.Keeping.{IsKept, has_name, numbered}
-use Rattle.ps_core.specs.State.{State, flat_marks, number_of, seen, sub_row}
+use Rattle.ps_core.specs.Keeping.{IsKept}
+use Rattle.ps_tables.specs.Members.{has_name, numbered}
+use Rattle.ps_core.specs.State.{State, flat_marks, seen, sub_row}
+use Rattle.ps_tables.specs.Subscriptions.{number_of}
 use Rattle.ps_core.specs.Steady.{IsSteady}
-use Rattle.ps_core.proofs.carrying.Kept.{IsSubscriptionAt, find-in-map, found-by-number, sub-named-seen, subscription-nowhere, subscription-there}
+use Rattle.ps_core.proofs.carrying.Kept.{IsSubscriptionAt, find-in-map, sub-named-seen, subscription-nowhere, subscription-there}
+use Rattle.ps_tables.proofs.numbers.Changes.{found-by-number, keeps-numbers, put-changes, unchanged}
 use Rattle.ps_core.proofs.carrying.Living.{live-seen}
 use Rattle.ps_core.proofs.carrying.Outcomes.{carried-left, carried-rests, carried-shown, finished-seen, outcome-open}
-use Rattle.ps_core.proofs.changing.Numbers.{keeps-numbers, put-changes, unchanged}
 use Rattle.ps_core.proofs.changing.Settings.{letters-unmasked}
 
 -- the row of each, of which one has other settings

@@ -1,17 +1,17 @@
 -- The checks of settings, as the code makes them.
-use Rattle.std.proofs.Common.{◌≡◌, ℕ, Bool, true, false, List, [], ◌∷◌, Option, Some, None, is_some, if◌then◌else◌, refl}
+use Rattle.std.proofs.Common.{◌≡◌, ℕ, Bool, true, false, List, [], ◌∷◌, Option, Some, None, if◌then◌else◌, refl}
 use Rattle.std.specs.List.{AllByRecursion}
 use Rattle.ps_base.specs.declared.reason.Reason.{Reason}
 use Rattle.ps_base.specs.declared.reason.Reason.TheVariants.{AckDeadlineSeconds, ExpirationPolicy, MaxDeliveryAttempts, MessageRetentionDuration, RetryPolicy}
 use Rattle.ps_config.specs.declared.config.SubConfig.{SubConfig}
 use Rattle.ps_config.specs.declared.config.TopicConfig.{TopicConfig}
 use Rattle.ps_config.specs.declared.mask.Mask.{Mask}
-use Rattle.ps_config.specs.Limits.{has_bad_attempts, has_bad_delays, if_masked, is_outside, is_outside_where_set, labels_fault, least_ack_seconds, least_expiration, least_retention, most_ack_seconds, most_expiration, most_retention, sub_checks_before_filter, sub_checks_behind_filter, sub_fault, topic_fault}
-use Rattle.ps_config.specs.Masks.{default_sub, default_topic, has_bit, masked_sub, masked_topic, whole_mask}
+use Rattle.ps_config.specs.Limits.{has_bad_attempts, has_bad_delays, if_masked, is_outside, is_outside_where_set, labels_fault, least_ack_seconds, least_expiration, least_retention, most_ack_seconds, most_expiration, most_retention, sub_fault, topic_fault}
+use Rattle.ps_config.specs.Masks.{default_sub, default_topic, has_bit, masked_sub, masked_topic}
 use Rattle.ps_message.specs.Lists.{first_of}
 use Rattle.ps_message.specs.Messages.{broken}
-use Rattle.ps_model.specs.Checks.{filter_setting_fault, new_sub_fault}
 use Rattle.ps_core.specs.Built.{first_name, sub_settings, unbuilt_sub_setting}
+use Rattle.ps_tables.proofs.lists.Options.{none-of}
 
 -- a check of a masked field reads it as it was given
 masked : {A : Type 0} (mask : Mask) (bit : ℕ) (fault : A → Option Reason) (new old : A) → if_masked mask bit (fault (if has_bit mask bit then new else old)) ≡ if_masked mask bit (fault new)
@@ -44,14 +44,10 @@ sub-masked mask config = λ i. first_of (
 -- ---- a new subscription, whose policies aren't built
 
 -- no test holds
-first-none : (tests : List (Bool × List ℕ)) → first_name tests ≡ None → AllByRecursion (λ (test : Bool × List ℕ). test.0 ≡ false) tests
+pub first-none : (tests : List (Bool × List ℕ)) → first_name tests ≡ None → AllByRecursion (λ (test : Bool × List ℕ). test.0 ≡ false) tests
 first-none [] none = tt
 first-none ((true, name) ∷ tests) none = absurd (cc (none))
 first-none ((false, name) ∷ tests) none = (refl, first-none tests none)
-
-nothing : {A : Type 0} (o : Option A) → is_some o ≡ false → o ≡ None
-nothing None h = refl
-nothing (Some x) h = absurd (cc (h))
 
 -- what settings are without those that aren't built
 pub record IsPlainly (config : SubConfig) : Type 0 where
@@ -63,26 +59,4 @@ pub record IsPlainly (config : SubConfig) : Type 0 where
 pub plainly : (config : SubConfig) → unbuilt_sub_setting config ≡ None → IsPlainly config
 plainly config built =
     let each = first-none (sub_settings config) built in
-    record { dead_letter = nothing config.dead_letter each.0; exactly_once = each.1.0; ordering = each.1.1.0; retry = nothing config.retry each.1.1.1.1.1.0 }
-
-none-behind : (config : SubConfig) → unbuilt_sub_setting config ≡ None → first_of (sub_checks_behind_filter whole_mask config) ≡ None
-none-behind config built =
-    let plain = plainly config built in
-    λ i. first_of (if_masked whole_mask 5 (broken (has_bad_attempts (plain.dead_letter i)) MaxDeliveryAttempts) ∷ if_masked whole_mask 6 (broken (has_bad_delays (plain.retry i)) RetryPolicy) ∷ [])
-
-first-found : (before filter behind : Option Reason) (reason : Reason) → behind ≡ None → first_of (before ∷ behind ∷ []) ≡ Some reason → first_of (before ∷ filter ∷ behind ∷ []) ≡ Some reason
-first-found None filter behind reason none is = absurd (cc)
-first-found (Some found) filter behind reason none is = is
-
-first-else : (before filter behind : Option Reason) → behind ≡ None → first_of (before ∷ behind ∷ []) ≡ None → first_of (before ∷ filter ∷ behind ∷ []) ≡ filter
-first-else None None behind none is = is
-first-else None (Some found) behind none is = refl
-first-else (Some found) filter behind none is = absurd (cc)
-
-pub new-sub-first : (config : SubConfig) (reason : Reason) → unbuilt_sub_setting config ≡ None → sub_fault whole_mask config ≡ Some reason → new_sub_fault config ≡ Some reason
-new-sub-first config reason built is =
-    first-found (first_of (sub_checks_before_filter whole_mask config)) (filter_setting_fault config.filter) (first_of (sub_checks_behind_filter whole_mask config)) reason (none-behind config built) is
-
-pub new-sub-filter : (config : SubConfig) → unbuilt_sub_setting config ≡ None → sub_fault whole_mask config ≡ None → new_sub_fault config ≡ filter_setting_fault config.filter
-new-sub-filter config built is =
-    first-else (first_of (sub_checks_before_filter whole_mask config)) (filter_setting_fault config.filter) (first_of (sub_checks_behind_filter whole_mask config)) (none-behind config built) is
+    record { dead_letter = none-of config.dead_letter each.0; exactly_once = each.1.0; ordering = each.1.1.0; retry = none-of config.retry each.1.1.1.1.1.0 }

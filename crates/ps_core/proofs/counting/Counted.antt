@@ -1,13 +1,12 @@
 -- Numbers that are counted subscription by subscription, over the flat list of marks.
-use Rattle.std.proofs.Common.{◌≡◌, ◌+◌, ℕ, Bool, true, List, [], ◌∷◌, ◌++◌, length, map, refl, ap, ◌∙◌, arith, if◌then◌else◌, ◌<◌, zero, suc, false, cond, take, get_or, add-one}
-use Rattle.std.proofs.Math.Nat.{add-zero}
+use Rattle.std.proofs.Common.{◌≡◌, ◌+◌, ℕ, Bool, true, List, [], ◌∷◌, ◌++◌, length, map, refl, ap, ◌∙◌, arith, if◌then◌else◌}
 use Rattle.std.specs.List.{AllByRecursion}
 use Rattle.ps_model.specs.declared.mark.Mark.{Mark}
 use Rattle.ps_model.specs.declared.mark.Slot.{Slot}
 use Rattle.ps_model.specs.declared.world.MarkRow.{MarkRow}
 use Rattle.ps_model.specs.Lists.{tally}
 use Rattle.ps_model.specs.Worlds.{row_of}
-use Rattle.ps_core.specs.declared.kept_subscription.KeptSubscription.{KeptSubscription}
+use Rattle.ps_tables.specs.declared.kept_subscription.KeptSubscription.{KeptSubscription}
 use Rattle.ps_core.specs.State.{flat_marks}
 use Rattle.ps_core.specs.Stats.{capped}
 
@@ -44,21 +43,6 @@ pub all_counted : (test : Mark → Bool) (left subscriptions : List KeptSubscrip
 all_counted test left subscriptions counted is before =
     let none : marks_in test left ≡ 0 = ap (marks_in test) is in
     omega (arith, before.sum, before.small, none)
-
--- ---- members that pass a test, up to a place
-
-tally-take : {A : Type 0} (p : A → Bool) (xs : List A) (i : ℕ) (x : A) → i < length xs → x ≡ get_or xs i x → tally p (take (suc i) xs) ≡ tally p (take i xs) + cond (p x) 1 0
-tally-take p [] i x h is = absurd (omega arith)
-tally-take p (y ∷ ys) zero x h is = omega (arith, ap {B = ℕ} (λ z. cond (p z) 1 0) is)
-tally-take p (y ∷ ys) (suc i) x h is = omega (arith, tally-take p ys i x (omega arith) is)
-
--- one that passes the test is counted
-pub tally_more : {A : Type 0} (p : A → Bool) (xs : List A) (i : ℕ) (x : A) → i < length xs → x ≡ get_or xs i x → p x ≡ true → tally p (take (i + 1) xs) ≡ tally p (take i xs) + 1
-tally_more p xs i x h is passes = rw (add-one i) (tally-take p xs i x h is ∙ ap (λ (b : Bool). tally p (take i xs) + cond b 1 0) passes)
-
--- another isn't
-pub tally_same : {A : Type 0} (p : A → Bool) (xs : List A) (i : ℕ) (x : A) → i < length xs → x ≡ get_or xs i x → p x ≡ false → tally p (take (i + 1) xs) ≡ tally p (take i xs)
-tally_same p xs i x h is fails = rw (add-one i) (tally-take p xs i x h is ∙ ap (λ (b : Bool). tally p (take i xs) + cond b 1 0) fails ∙ add-zero _)
 
 -- where each member passes the test, all are counted
 pub tally_all : {A : Type 0} (test : A → Bool) (xs : List A) → AllByRecursion (λ (x : A). test x ≡ true) xs → tally test xs ≡ length xs

@@ -14,19 +14,23 @@ use Rattle.ps_model.specs.Failing.{is_due}
 use Rattle.ps_model.specs.Sound.{Ordered}
 use Rattle.ps_sub.specs.Showing.{has}
 use Rattle.ps_model.proofs.SameLemmas.{exact-bytes}
-use Rattle.ps_core.specs.declared.kept_subscription.KeptSubscription.{KeptSubscription}
-use Rattle.ps_core.specs.declared.tables.KeptMessage.{KeptMessage}
-use Rattle.ps_core.specs.declared.tables.KeptTopic.{KeptTopic}
-use Rattle.ps_core.specs.declared.tables.Tables.{Tables}
-use Rattle.ps_core.specs.Effects.{add_topic, add_subscription, is_attached, new_subscription}
-use Rattle.ps_core.specs.Keeping.{IsKept, IsNumbered, IsCounted, HasMembers, numbered, has_name, has_topic_name, attached_at, holders_of, the_row}
-use Rattle.ps_core.specs.State.{State, number_of, topic_number}
+use Rattle.ps_tables.specs.declared.kept_subscription.KeptSubscription.{KeptSubscription}
+use Rattle.ps_tables.specs.declared.tables.KeptMessage.{KeptMessage}
+use Rattle.ps_tables.specs.declared.tables.KeptTopic.{KeptTopic}
+use Rattle.ps_tables.specs.declared.tables.Tables.{Tables}
+use Rattle.ps_core.specs.Effects.{add_topic, add_subscription, new_subscription}
+use Rattle.ps_tables.specs.Subscriptions.{is_attached, number_of}
+use Rattle.ps_core.specs.Keeping.{IsKept, IsCounted, has_topic_name, the_row}
+use Rattle.ps_tables.specs.Numbers.{IsNumbered}
+use Rattle.ps_tables.specs.Members.{HasMembers, numbered, has_name, attached_at, holders_of}
+use Rattle.ps_core.specs.State.{State, topic_number}
 use Rattle.ps_core.specs.Steady.{IsSteady, IsSteadySubscription}
-use Rattle.ps_core.specs.TableEdits.{AddsTopic, HasOtherSubs, JoinsTopic, PutsName}
+use Rattle.ps_tables.specs.TableEdits.{AddsTopic, HasOtherSubs, JoinsTopic, PutsName}
 use Rattle.ps_base.proofs.Lists.{each-append, each-found, each-map, each-of-map, each-then, find-none, found-passes, none-found}
+use Rattle.ps_tables.proofs.lists.Ordered.{ordered-of-map}
 use Rattle.ps_core.proofs.carrying.Kept.{topic-got}
-use Rattle.ps_core.proofs.creating.Pushed.{entries-push, number-push, ordered-of-map, shown-put}
-use Rattle.ps_core.proofs.marks.Numbered.{numbered-found, numbered-put, numbered-put-keys}
+use Rattle.ps_core.proofs.creating.Pushed.{entries-push, number-push, shown-put}
+use Rattle.ps_tables.proofs.numbers.Numbered.{numbered-found, numbered-put, numbered-put-keys}
 
 -- ---- a new topic
 

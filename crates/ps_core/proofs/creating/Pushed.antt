@@ -4,16 +4,10 @@ use Rattle.std.specs.List.{AllByRecursion}
 use Rattle.std.specs.Map.{lookup, set_value, values_of}
 use Rattle.std.specs.BTreeMap.{insert_entry}
 use Rattle.std.specs.Str.{bytes_eq}
-use Rattle.ps_model.specs.Sound.{Ordered}
 use Rattle.ps_model.proofs.SameLemmas.{exact-bytes}
-use Rattle.ps_core.specs.Keeping.{IsNumbered}
-use Rattle.ps_base.proofs.Lists.{each-of-map, each-then, find-front, found-last, none-found}
-use Rattle.ps_core.proofs.marks.Numbered.{numbered-pushed, numbered-push-keys, values-push}
-
--- what is in order by f is in order
-pub ordered-of-map : {A B : Type 0} (R : B → B → Type 0) (f : A → B) (xs : List A) → Ordered R (map f xs) → Ordered (λ a b. R (f a) (f b)) xs
-ordered-of-map R f [] h = tt
-ordered-of-map R f (x ∷ xs) h = (each-of-map (R (f x)) f xs h.0, ordered-of-map R f xs h.1)
+use Rattle.ps_tables.specs.Numbers.{IsNumbered}
+use Rattle.ps_base.proofs.Lists.{each-then, find-front, found-last, none-found}
+use Rattle.ps_tables.proofs.numbers.Numbered.{numbered-pushed, numbered-push-keys, values-push}
 
 -- the number of the first that passes, with one member more, which passes only if none did
 pub number-push : {A : Type 0} (number : A → ℕ) (p : A → Bool) (xs : List A) (y : A) → (p y ≡ true → find p xs ≡ None) → option_map number (find p (xs ++ y ∷ [])) ≡ (if p y then Some (number y) else option_map number (find p xs))

@@ -9,15 +9,17 @@ use Rattle.ps_config.specs.declared.config.SubConfig.{SubConfig}
 use Rattle.ps_model.specs.declared.world.TopicRow.{TopicRow}
 use Rattle.ps_model.specs.declared.world.MessageRow.{MessageRow}
 use Rattle.ps_sub.specs.Showing.{has}
-use Rattle.ps_core.specs.declared.kept_subscription.KeptSubscription.{KeptSubscription}
+use Rattle.ps_tables.specs.declared.kept_subscription.KeptSubscription.{KeptSubscription}
 use Rattle.ps_core.specs.Built.{unbuilt_topic_setting}
-use Rattle.ps_core.specs.Effects.{add_topic, add_subscription, is_had, new_subscription}
-use Rattle.ps_core.specs.Keeping.{has_name, has_topic_name}
+use Rattle.ps_core.specs.Effects.{add_topic, add_subscription, new_subscription}
+use Rattle.ps_tables.specs.Subscriptions.{is_had}
+use Rattle.ps_tables.specs.Members.{has_name}
+use Rattle.ps_core.specs.Keeping.{has_topic_name}
 use Rattle.ps_core.specs.State.{State}
 use Rattle.ps_core.specs.Steady.{HasGoodSettings, IsJoined, IsSteadySubscription, IsSteady}
 use Rattle.ps_base.proofs.Lists.{each-append, each-then}
 use Rattle.ps_core.proofs.creating.Pushed.{other-names}
-use Rattle.ps_core.proofs.marks.Ordered.{ordered-append}
+use Rattle.ps_tables.proofs.lists.Ordered.{ordered-append}
 
 -- the one more is behind each of the others
 behind : {A : Type 0} (R : A → A → Type 0) (P : A → Type 0) (xs : List A) (y : A) → ((x : A) → P x → R x y) → AllByRecursion P xs → AllByRecursion (λ x. AllByRecursion (R x) (y ∷ [])) xs

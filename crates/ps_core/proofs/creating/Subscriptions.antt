@@ -25,10 +25,10 @@ use Rattle.ps_model.specs.Showing.{sub_shown}
 use Rattle.ps_model.specs.Subscriptions.{retained_rows, missing_of, create_sub_named, create_sub_at}
 use Rattle.ps_model.specs.Worlds.{row_of, topic_named, sub_named}
 use Rattle.ps_model.proofs.SameLemmas.{same-world}
-use Rattle.ps_core.specs.declared.kept_subscription.KeptSubscription.{KeptSubscription}
+use Rattle.ps_tables.specs.declared.kept_subscription.KeptSubscription.{KeptSubscription}
 use Rattle.ps_core.specs.Carrying.{IsCarried}
 use Rattle.ps_core.specs.Effects.{recorded_at, add_subscription, new_subscription}
-use Rattle.ps_core.specs.Keeping.{has_name}
+use Rattle.ps_tables.specs.Members.{has_name}
 use Rattle.ps_core.specs.State.{State, sub_row, flat_marks, seen}
 use Rattle.ps_core.specs.Steady.{HasGoodSettings, IsSteady}
 use Rattle.ps_core.proofs.carrying.Kept.{sub-named-seen}

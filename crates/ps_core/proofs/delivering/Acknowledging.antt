@@ -21,12 +21,13 @@ use Rattle.ps_model.specs.Checks.{argument_fault}
 use Rattle.ps_model.specs.Commands.{outcome}
 use Rattle.ps_model.specs.Outcomes.{answers}
 use Rattle.ps_sub.proofs.OrderLemmas.{any_earlier_none}
-use Rattle.ps_core.specs.declared.kept_subscription.KeptSubscription.{KeptSubscription}
-use Rattle.ps_core.specs.declared.tables.Tables.{Tables}
+use Rattle.ps_tables.specs.declared.kept_subscription.KeptSubscription.{KeptSubscription}
+use Rattle.ps_tables.specs.declared.tables.Tables.{Tables}
 use Rattle.ps_core.specs.Carrying.{IsCarried}
 use Rattle.ps_core.specs.Delivering.{tickets_of}
 use Rattle.ps_core.specs.Effects.{ack_subscription, recorded_at}
-use Rattle.ps_core.specs.Keeping.{has_name, IsKept, numbered}
+use Rattle.ps_tables.specs.Members.{has_name, numbered}
+use Rattle.ps_core.specs.Keeping.{IsKept}
 use Rattle.ps_core.specs.State.{State, seen, sub_row}
 use Rattle.ps_core.specs.Steady.{HasGoodSettings, IsPlainMark, IsSteady}
 use Rattle.ps_core.proofs.carrying.Kept.{IsSubscriptionAt, sub-named-seen, subscription-nowhere}

@@ -11,14 +11,15 @@ use Rattle.ps_model.specs.declared.world.MessageRow.{MessageRow}
 use Rattle.ps_model.specs.Slots.{remark, remarked}
 use Rattle.ps_model.specs.Sound.{Ordered}
 use Rattle.ps_sub.proofs.SteadyLemmas.{ascending-remarked}
-use Rattle.ps_core.specs.declared.kept_subscription.KeptSubscription.{KeptSubscription}
-use Rattle.ps_core.specs.Effects.{is_had, recorded_at}
+use Rattle.ps_tables.specs.declared.kept_subscription.KeptSubscription.{KeptSubscription}
+use Rattle.ps_tables.specs.Subscriptions.{is_had}
+use Rattle.ps_core.specs.Effects.{recorded_at}
 use Rattle.ps_core.specs.Settling.{has_due}
 use Rattle.ps_core.specs.State.{State}
 use Rattle.ps_core.specs.Steady.{IsJoined, IsPlainMark, IsSteady, IsSteadySubscription}
 use Rattle.ps_base.proofs.Lists.{each-map, each-then}
 use Rattle.ps_core.proofs.carrying.Kept.{IsSameHolder}
-use Rattle.ps_core.proofs.marks.Ordered.{ordered-map}
+use Rattle.ps_tables.proofs.lists.Ordered.{ordered-map}
 use Rattle.ps_core.proofs.settling.Ending.{had-mapped, has-remarked}
 use Rattle.ps_core.proofs.settling.Loop.{put-known}
 

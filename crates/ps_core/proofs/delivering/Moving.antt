@@ -19,7 +19,7 @@ use Rattle.ps_model.specs.Same.{WorldParts, same_world}
 use Rattle.ps_model.specs.Slots.{failures_of, remarked}
 use Rattle.ps_model.specs.Worlds.{rows_of}
 use Rattle.ps_model.proofs.SameLemmas.{same-world}
-use Rattle.ps_core.specs.declared.kept_subscription.KeptSubscription.{KeptSubscription}
+use Rattle.ps_tables.specs.declared.kept_subscription.KeptSubscription.{KeptSubscription}
 use Rattle.ps_core.specs.Effects.{ack_subscription, is_any_due, lend_subscription}
 use Rattle.ps_core.specs.Settling.{has_due}
 use Rattle.ps_core.specs.State.{State, flat_marks, seen, sub_row}

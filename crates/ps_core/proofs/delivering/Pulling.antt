@@ -24,12 +24,13 @@ use Rattle.ps_model.specs.Commands.{outcome}
 use Rattle.ps_model.specs.Outcomes.{answers}
 use Rattle.ps_model.specs.Pulling.{pull_at, pull_from, received}
 use Rattle.ps_model.specs.Worlds.{message_at}
-use Rattle.ps_core.specs.declared.kept_subscription.KeptSubscription.{KeptSubscription}
-use Rattle.ps_core.specs.declared.tables.Tables.{Tables}
+use Rattle.ps_tables.specs.declared.kept_subscription.KeptSubscription.{KeptSubscription}
+use Rattle.ps_tables.specs.declared.tables.Tables.{Tables}
 use Rattle.ps_core.specs.Carrying.{IsCarried}
 use Rattle.ps_core.specs.Delivering.{received_all}
 use Rattle.ps_core.specs.Effects.{given_of, lend_subscription, recorded_at}
-use Rattle.ps_core.specs.Keeping.{has_name, IsKept, numbered}
+use Rattle.ps_tables.specs.Members.{has_name, numbered}
+use Rattle.ps_core.specs.Keeping.{IsKept}
 use Rattle.ps_core.specs.State.{State, seen, sub_row}
 use Rattle.ps_core.specs.Steady.{IsPlainMark, IsSteady, IsSteadySubscription}
 use Rattle.ps_core.proofs.carrying.Kept.{IsSubscriptionAt, sub-named-seen, subscription-nowhere}

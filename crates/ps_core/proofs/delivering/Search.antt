@@ -4,10 +4,11 @@ use Rattle.std.specs.BTreeMap.{is_at}
 use Rattle.std.specs.Map.{lookup, values_of}
 use Rattle.ps_model.specs.declared.world.MessageRow.{MessageRow}
 use Rattle.ps_model.specs.Worlds.{message_at, no_message}
-use Rattle.ps_core.specs.declared.tables.KeptMessage.{KeptMessage}
-use Rattle.ps_core.specs.Keeping.{IsNumbered, the_message}
+use Rattle.ps_tables.specs.declared.tables.KeptMessage.{KeptMessage}
+use Rattle.ps_tables.specs.Numbers.{IsNumbered}
+use Rattle.ps_core.specs.Keeping.{the_message}
 use Rattle.ps_core.proofs.carrying.Kept.{find-in-map}
-use Rattle.ps_core.proofs.marks.Numbered.{numbered-found}
+use Rattle.ps_tables.proofs.numbers.Numbered.{numbered-found}
 
 pub message-looked : (n : ℕ) (es : List (ℕ × KeptMessage)) → IsNumbered (λ (x : KeptMessage). x.row.number) es → (answer : Option KeptMessage) → answer ≡ lookup (is_at (nat_cmp n)) es
     → message_at (map the_message (values_of es)) n ≡ unwrap_or (option_map the_message answer) (no_message n)

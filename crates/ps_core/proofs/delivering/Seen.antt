@@ -14,9 +14,10 @@ use Rattle.ps_model.specs.Choice.{choice, handed, lent_mark}
 use Rattle.ps_model.specs.Outcomes.{Outcome, answers}
 use Rattle.ps_model.specs.Pulling.{pull_from, received_all}
 use Rattle.ps_model.specs.Worlds.{put_sub, remark_at, row_of, rows_of, slot_of, slots_of}
-use Rattle.ps_core.specs.declared.kept_subscription.KeptSubscription.{KeptSubscription}
+use Rattle.ps_tables.specs.declared.kept_subscription.KeptSubscription.{KeptSubscription}
 use Rattle.ps_core.specs.Effects.{given_of}
-use Rattle.ps_core.specs.State.{State, flat_marks, number_of, seen, slots_in, sub_row}
+use Rattle.ps_core.specs.State.{State, flat_marks, seen, slots_in, sub_row}
+use Rattle.ps_tables.specs.Subscriptions.{number_of}
 use Rattle.ps_core.specs.Steady.{IsJoined, IsSteady, IsSteadySubscription}
 use Rattle.ps_base.proofs.Lists.{each-found, each-then, map-unseen}
 use Rattle.ps_core.proofs.checking.Faults.{plainly}

@@ -9,19 +9,23 @@ use Rattle.ps_model.specs.declared.mark.Slot.{Slot}
 use Rattle.ps_model.specs.declared.world.World.{World}
 use Rattle.ps_model.specs.Live.{live}
 use Rattle.ps_model.specs.Sound.{Ordered}
-use Rattle.ps_core.specs.declared.kept_subscription.KeptSubscription.{KeptSubscription}
-use Rattle.ps_core.specs.declared.name_index.NameIndex.{NameIndex}
-use Rattle.ps_core.specs.declared.tables.Tables.{Tables}
+use Rattle.ps_tables.specs.declared.kept_subscription.KeptSubscription.{KeptSubscription}
+use Rattle.ps_tables.specs.declared.name_index.NameIndex.{NameIndex}
+use Rattle.ps_tables.specs.declared.tables.Tables.{Tables}
 use Rattle.ps_core.specs.Effects.{recorded_at}
-use Rattle.ps_core.specs.Keeping.{has_name, IsKept, IsNumbered, numbered}
+use Rattle.ps_tables.specs.Members.{has_name, numbered}
+use Rattle.ps_core.specs.Keeping.{IsKept}
+use Rattle.ps_tables.specs.Numbers.{IsNumbered}
 use Rattle.ps_core.specs.Settling.{has_due}
-use Rattle.ps_core.specs.State.{State, number_of, seen}
+use Rattle.ps_core.specs.State.{State, seen}
+use Rattle.ps_tables.specs.Subscriptions.{number_of}
 use Rattle.ps_core.specs.Steady.{IsSteady}
 use Rattle.ps_base.proofs.Lists.{each-always}
-use Rattle.ps_core.proofs.carrying.Kept.{found-by-number, IsSameHolder, IsSubscriptionAt, kept-changed, subscription-there}
+use Rattle.ps_tables.proofs.numbers.Changes.{found-by-number}
+use Rattle.ps_core.proofs.carrying.Kept.{IsSameHolder, IsSubscriptionAt, kept-changed, subscription-there}
 use Rattle.ps_core.proofs.carrying.Living.{live-seen}
 use Rattle.ps_core.proofs.delivering.Marked.{marked, marked_at, marked-holder, marked-put, StandsIn}
-use Rattle.ps_core.proofs.marks.Numbered.{numbered-put, numbered-put-keys}
+use Rattle.ps_tables.proofs.numbers.Numbered.{numbered-put, numbered-put-keys}
 
 -- the value that is there, written again
 set-same : {A : Type 0} (test : ℕ → Bool) (x : A) (es : List (ℕ × A)) → lookup test es ≡ Some x → set_value test es x ≡ es

@@ -17,7 +17,7 @@ use Rattle.ps_core.specs.Pages.{front_of}
 use Rattle.ps_names.specs.Names.{is_project_byte, starts_with_byte, is_project, is_id, is_name_of, parts_of, project_part}
 use Rattle.ps_names.specs.Parts.{has_slash, is_parts_of}
 use Rattle.ps_names.proofs.GrammarLemmas.{parts-are-name}
-use Rattle.ps_core.proofs.listing.Paging.{begins, starts-begins}
+use Rattle.ps_tables.proofs.names.Paging.{begins, starts-begins}
 
 -- ---- names by their parts
 

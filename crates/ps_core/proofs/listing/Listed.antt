@@ -14,10 +14,13 @@ use Rattle.std.proofs.lemmas.Bool.{both_ways, false_from_ne_true, eq-eqb, ne_eqb
 use Rattle.ps_base.specs.Keys.{is_below}
 use Rattle.ps_model.specs.Listing.{sorted_by, after_token, last_name}
 use Rattle.ps_model.specs.Sound.{Ordered}
-use Rattle.ps_core.specs.Pages.{rows_at, page_numbers, page_next}
+use Rattle.ps_core.specs.Pages.{rows_at}
+use Rattle.ps_tables.specs.Pages.{page_numbers, page_next}
 use Rattle.ps_base.proofs.Lists.{each-left, each-then-both}
-use Rattle.ps_core.proofs.listing.Sorting.{Up, each-sorted, sorted-up, sorted-find, sorted-filter}
-use Rattle.ps_core.proofs.listing.Paging.{key, entries-same, filter-twice}
+use Rattle.ps_tables.proofs.lists.Filtered.{filter-twice}
+use Rattle.ps_tables.proofs.names.Order.{Up}
+use Rattle.ps_core.proofs.listing.Sorting.{each-sorted, sorted-up, sorted-find, sorted-filter}
+use Rattle.ps_tables.proofs.names.Paging.{key, entries-same}
 
 module _ {A : Type 0} (name : A → List ℕ) (number : A → ℕ) where
   -- a row's name and number

@@ -2,55 +2,16 @@
 use Rattle.std.proofs.Common.{◌≡◌, ◌≢◌, ℕ, Bool, true, false, cond, List, [], ◌∷◌, find, filter, Some, refl, sym, ap, ◌∙◌, if◌then◌else◌}
 use Rattle.std.specs.List.{AllByRecursion}
 use Rattle.std.specs.Str.{bytes_eq}
-use Rattle.std.specs.Cmp.Lexicographic.{slice_cmp}
-use Rattle.std.proofs.Common.{Ordering}
-use Rattle.std.specs.Ordering.{is_lt, nat_cmp, ordering_reverse}
-use Rattle.std.specs.declared.cmp.Ordering.TheVariants.{Less, Equal, Greater}
-use Rattle.std.proofs.lemmas.Bool.{both_ways}
-use Rattle.std.proofs.lemmas.Cmp.{nat_list_cmp_total}
-use Rattle.std.proofs.lemmas.Map.Lookups.{exact_bytes}
 use Rattle.std.proofs.lemmas.Slice.Eq.{bytes_eq-Decides}
 use Rattle.ps_base.specs.Keys.{is_below}
 use Rattle.ps_base.proofs.Lists.{each-left}
 use Rattle.ps_model.specs.Listing.{insert_by, sorted_by}
 use Rattle.ps_model.specs.Sound.{Ordered}
-
--- ---- byte order
-
-less : (o : Ordering) → is_lt o ≡ true → o ≡ Less
-less Less h = refl
-less Equal h = absurd (cc (h))
-less Greater h = absurd (cc (h))
-
-pub below-trans : (a b c : List ℕ) → is_below a b ≡ true → is_below b c ≡ true → is_below a c ≡ true
-below-trans a b c ab bc = ap is_lt (nat_list_cmp_total.trans a b c (less _ ab) (less _ bc))
-
--- of two names that differ, one is below the other
-pub below-other : (a b : List ℕ) → is_below a b ≡ false → a ≢ b → is_below b a ≡ true
-below-other a b h ne = by (slice_cmp nat_cmp a b) refl h
-  where
-    by : (o : Ordering) → slice_cmp nat_cmp a b ≡ o → is_lt o ≡ false → is_below b a ≡ true
-    by Less e h = absurd (cc (h))
-    by Equal e h = absurd (ne (exact_bytes a b e))
-    by Greater e h = ap is_lt (nat_list_cmp_total.antisymm b a ∙ ap ordering_reverse e)
-
-pub below-irrefl : (a b : List ℕ) → is_below a b ≡ true → a ≢ b
-below-irrefl a b h e = both_ways (is_below a b) (ap (λ c. is_below c b) e ∙ own b) h
-  where
-    own : (b : List ℕ) → is_below b b ≡ false
-    own b = by (slice_cmp nat_cmp b b) (nat_list_cmp_total.antisymm b b)
-      where
-        by : (o : Ordering) → o ≡ ordering_reverse o → is_lt o ≡ false
-        by Less e = absurd (cc (e))
-        by Equal e = refl
-        by Greater e = refl
+use Rattle.ps_tables.proofs.names.Order.{Up, below-trans, below-other}
 
 -- ---- what a sorted list keeps
 
 module _ {A : Type 0} (name : A → List ℕ) where
-  abbrev pub Up : List A → Type 0
-  Up xs = Ordered (λ a b. is_below (name a) (name b) ≡ true) xs
-
   pub each-insert : (P : A → Type 0) (x : A) (ys : List A) → P x → AllByRecursion P ys → AllByRecursion P (insert_by name x ys)
   each-insert P x [] p h = (p, tt)
   each-insert P x (y ∷ ys) p h = by (is_below (name x) (name y)) (each-insert P x ys p h.1)
@@ -67,15 +28,15 @@ module _ {A : Type 0} (name : A → List ℕ) where
   each-beyond a b [] ab h = tt
   each-beyond a b (x ∷ xs) ab h = (below-trans a b (name x) ab h.0, each-beyond a b xs ab h.1)
 
-  insert-up : (x : A) (ys : List A) → AllByRecursion (λ y. name x ≢ name y) ys → Up ys → Up (insert_by name x ys)
+  insert-up : (x : A) (ys : List A) → AllByRecursion (λ y. name x ≢ name y) ys → Up name ys → Up name (insert_by name x ys)
   insert-up x [] ne up = (tt, tt)
   insert-up x (y ∷ ys) ne up = by (is_below (name x) (name y)) refl (insert-up x ys ne.1 up.1)
     where
-      by : (b : Bool) → is_below (name x) (name y) ≡ b → Up (insert_by name x ys) → Up (if b then x ∷ (y ∷ ys) else y ∷ insert_by name x ys)
+      by : (b : Bool) → is_below (name x) (name y) ≡ b → Up name (insert_by name x ys) → Up name (if b then x ∷ (y ∷ ys) else y ∷ insert_by name x ys)
       by true e ih = ((e, each-beyond (name x) (name y) ys e up.0), up)
       by false e ih = (each-insert (λ z. is_below (name y) (name z) ≡ true) x ys (below-other (name x) (name y) e ne.0) up.0, ih)
 
-  pub sorted-up : (xs : List A) → Ordered (λ a b. name a ≢ name b) xs → Up (sorted_by name xs)
+  pub sorted-up : (xs : List A) → Ordered (λ a b. name a ≢ name b) xs → Up name (sorted_by name xs)
   sorted-up [] h = tt
   sorted-up (x ∷ xs) h = insert-up x (sorted_by name xs) (each-sorted (λ y. name x ≢ name y) xs h.0) (sorted-up xs h.1)
 
@@ -105,7 +66,7 @@ module _ {A : Type 0} (name : A → List ℕ) where
   insert-first x [] h = refl
   insert-first x (y ∷ ys) h = ap (λ (b : Bool). if b then x ∷ (y ∷ ys) else y ∷ insert_by name x ys) h.0
 
-  insert-filter : (p : A → Bool) (x : A) (ys : List A) → Up ys → filter p (insert_by name x ys) ≡ cond (p x) (insert_by name x (filter p ys)) (filter p ys)
+  insert-filter : (p : A → Bool) (x : A) (ys : List A) → Up name ys → filter p (insert_by name x ys) ≡ cond (p x) (insert_by name x (filter p ys)) (filter p ys)
   insert-filter p x [] up = by (p x)
     where
       by : (b : Bool) → cond b (x ∷ []) [] ≡ cond b (x ∷ []) []

@@ -7,7 +7,7 @@ use Rattle.std.specs.Ordering.{nat_cmp}
 use Rattle.std.specs.Str.{bytes_eq}
 use Rattle.std.specs.String.{string_cmp}
 use Rattle.ps_base.specs.Keys.{is_below}
-use Rattle.ps_base.proofs.Lists.{each-then, each-map, each-left}
+use Rattle.ps_base.proofs.Lists.{each-then, each-map, each-left, each-always}
 use Rattle.ps_names.specs.Names.{is_project, is_sub_name, project_part}
 use Rattle.ps_model.specs.declared.command.Command.TheVariants.{ListSubscriptions, ListTopicSubscriptions}
 use Rattle.ps_model.specs.declared.command.Paging.{Paging}
@@ -20,22 +20,25 @@ use Rattle.ps_model.specs.declared.world.SubRow.{SubRow}
 use Rattle.ps_model.specs.Listing.{after_token, last_name, page_size}
 use Rattle.ps_model.specs.Outcomes.{Shows}
 use Rattle.ps_model.specs.Showing.{sub_shown}
-use Rattle.ps_core.specs.declared.name_index.NameIndex.{NameIndex}
-use Rattle.ps_core.specs.declared.tables.KeptTopic.{KeptTopic}
-use Rattle.ps_core.specs.declared.tables.Tables.{Tables}
+use Rattle.ps_tables.specs.declared.name_index.NameIndex.{NameIndex}
+use Rattle.ps_tables.specs.declared.tables.KeptTopic.{KeptTopic}
+use Rattle.ps_tables.specs.declared.tables.Tables.{Tables}
 use Rattle.ps_core.specs.Carrying.{IsCarried}
-use Rattle.ps_core.specs.Keeping.{IsKept, HasMembers, numbered, has_name, attached_at, subscription_at}
-use Rattle.ps_core.specs.Pages.{front_of, named_numbers, range_of, is_in_range, page_numbers, page_next, rows_at, sub_name, sub_number, HasSubscriptionsOf}
-use Rattle.ps_core.specs.State.{State, number_of, sub_row, seen}
+use Rattle.ps_core.specs.Keeping.{IsKept, subscription_at}
+use Rattle.ps_tables.specs.Members.{HasMembers, numbered, has_name, attached_at}
+use Rattle.ps_core.specs.Pages.{front_of, rows_at, sub_name, sub_number, HasSubscriptionsOf}
+use Rattle.ps_tables.specs.Pages.{named_numbers, range_of, is_in_range, page_numbers, page_next}
+use Rattle.ps_core.specs.State.{State, sub_row, seen}
+use Rattle.ps_tables.specs.Subscriptions.{number_of, is_attached}
+use Rattle.ps_tables.proofs.lists.Filtered.{filter-all}
 use Rattle.ps_core.proofs.carrying.Outcomes.{outcome-open, carried-shown}
 use Rattle.ps_core.proofs.listing.Fronts.{in-project}
 use Rattle.ps_core.proofs.listing.Listed.{entry, entries-rows, range-rows, next-listed, page-rows}
-use Rattle.ps_core.proofs.listing.Paging.{bytes-up, filter-ordered}
-use Rattle.ps_core.proofs.marks.Ordered.{ordered-map}
+use Rattle.ps_tables.proofs.names.Paging.{bytes-up}
+use Rattle.ps_tables.proofs.lists.Ordered.{ordered-map, ordered-filter}
 use Rattle.ps_core.proofs.listing.Topics.{index-found}
 use Rattle.ps_core.proofs.carrying.Kept.{find-in-map, IsTopicAt}
-use Rattle.ps_core.specs.declared.kept_subscription.KeptSubscription.{KeptSubscription}
-use Rattle.ps_core.specs.Effects.{is_attached}
+use Rattle.ps_tables.specs.declared.kept_subscription.KeptSubscription.{KeptSubscription}
 use Rattle.ps_core.specs.Steady.{IsSteady}
 use Rattle.ps_model.specs.Sound.{Ordered}
 use Rattle.ps_model.specs.Listing.{topic_subs_at}
@@ -123,10 +126,6 @@ subscriptions-page at project paging s next_end tables kept ordered good room fr
 
 -- ---- the subscriptions of a topic
 
-filter-all : {A : Type 0} (xs : List A) → filter (λ x. true) xs ≡ xs
-filter-all [] = refl
-filter-all (x ∷ xs) = ap (λ ys. x ∷ ys) (filter-all xs)
-
 behind-nothing : (name : List ℕ) → is_sub_name name ≡ true → (starts_with nat_eq name [] && is_below [] name) ≡ true
 behind-nothing [] h = absurd (false≢true h)
 behind-nothing (x ∷ xs) h = refl
@@ -134,13 +133,13 @@ behind-nothing (x ∷ xs) h = refl
 members-range : (s : State) (topic : ℕ) (index : NameIndex) (after : List ℕ) → IsSteady s → IsOrdered string_cmp index.numbers → ((q : List ℕ) → numbered index q ≡ attached_at topic q s.subscriptions) → range_of [] after index ≡ entries_after (is_row_of topic) after s
 members-range s topic index after steady ordered members =
     let there = filter (is_row_of topic) (rows s) in
-    let differ = filter-ordered (λ (a b : SubRow). a.name ≢ b.name) (is_row_of topic) (rows s) (names-differ s steady) in
+    let differ = ordered-filter (λ (a b : SubRow). a.name ≢ b.name) (is_row_of topic) (rows s) (names-differ s steady) in
     ap (filter (λ (e : List ℕ × ℕ). is_in_range [] after e.0))
     (entries-rows (λ (r : SubRow). r.name) sub_number (named_numbers index) there (bytes-up index.numbers.entries ordered) differ (λ q. index-found index q ∙ members q ∙ attached-rows topic q s.subscriptions))
     ∙ range-rows (λ (r : SubRow). r.name) sub_number (λ (r : SubRow). true) (λ n. starts_with nat_eq n [] && is_below [] n) after there differ
     (each-then (λ (r : SubRow). is_sub_name r.name ≡ true) (λ (r : SubRow). (starts_with nat_eq r.name [] && is_below [] r.name) ≡ true) there (λ r is. behind-nothing r.name is)
     (each-left (λ (r : SubRow). is_sub_name r.name ≡ true) (is_row_of topic) (rows s) (grammar s steady)))
-    ∙ ap (λ rs. map (entry (λ (r : SubRow). r.name) sub_number) (after_token (λ (r : SubRow). r.name) after rs)) (filter-all there)
+    ∙ ap (λ rs. map (entry (λ (r : SubRow). r.name) sub_number) (after_token (λ (r : SubRow). r.name) after rs)) (filter-all (λ (r : SubRow). true) there (each-always (λ (r : SubRow). ◌≡◌ {A = Bool} true true) there (λ r. refl)))
 
 pub members-page : (at : ℕ) (name : List ℕ) (paging : Paging) (s : State) (index : NameIndex) → IsSteady s → HasSubscriptionsOf s name index → IsOrdered string_cmp index.numbers → s.count < 2 ^ 50
     → (after numbers : List ℕ) (most : ℕ) (next : Option (List ℕ)) → after ≡ paging.after → most ≡ page_size paging.size → numbers ≡ page_numbers most (range_of [] after index) → next ≡ page_next most (range_of [] after index)

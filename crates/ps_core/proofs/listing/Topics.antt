@@ -18,16 +18,18 @@ use Rattle.ps_model.specs.declared.world.TopicRow.{TopicRow}
 use Rattle.ps_model.specs.Listing.{after_token, last_name, page_size}
 use Rattle.ps_model.specs.Outcomes.{Shows}
 use Rattle.ps_model.specs.Showing.{topic_shown}
-use Rattle.ps_core.specs.declared.name_index.NameIndex.{NameIndex}
-use Rattle.ps_core.specs.declared.tables.Tables.{Tables}
+use Rattle.ps_tables.specs.declared.name_index.NameIndex.{NameIndex}
+use Rattle.ps_tables.specs.declared.tables.Tables.{Tables}
 use Rattle.ps_core.specs.Carrying.{IsCarried}
-use Rattle.ps_core.specs.Keeping.{IsKept, numbered}
-use Rattle.ps_core.specs.Pages.{front_of, named_numbers, with_bytes, range_of, is_in_range, page_numbers, page_next, rows_at}
+use Rattle.ps_core.specs.Keeping.{IsKept}
+use Rattle.ps_tables.specs.Members.{numbered}
+use Rattle.ps_core.specs.Pages.{front_of, rows_at}
+use Rattle.ps_tables.specs.Pages.{named_numbers, with_bytes, range_of, is_in_range, page_numbers, page_next}
 use Rattle.ps_core.specs.State.{State, topic_number}
 use Rattle.ps_core.proofs.carrying.Outcomes.{outcome-open, carried-shown}
 use Rattle.ps_core.proofs.listing.Fronts.{in-project}
 use Rattle.ps_core.proofs.listing.Listed.{entry, entries-rows, range-rows, next-listed, page-rows}
-use Rattle.ps_core.proofs.listing.Paging.{bytes-up}
+use Rattle.ps_tables.proofs.names.Paging.{bytes-up}
 
 -- what is found among the bytes
 lookup-bytes : {Y : Type 0} (q : List ℕ) (es : List (String Y × ℕ)) → lookup (is_at (slice_cmp nat_cmp q)) (with_bytes es) ≡ lookup (is_at (λ k. slice_cmp nat_cmp q (string_bytes k))) es

@@ -8,9 +8,9 @@ use Rattle.ps_model.specs.Showing.{topic_shown, sub_shown}
 use Rattle.ps_model.specs.Subscriptions.{get_sub_at}
 use Rattle.ps_model.specs.Topics.{get_topic_at}
 use Rattle.ps_model.specs.Worlds.{topic_named}
-use Rattle.ps_core.specs.declared.kept_subscription.KeptSubscription.{KeptSubscription}
+use Rattle.ps_tables.specs.declared.kept_subscription.KeptSubscription.{KeptSubscription}
 use Rattle.ps_core.specs.Carrying.{IsCarried}
-use Rattle.ps_core.specs.Keeping.{has_name}
+use Rattle.ps_tables.specs.Members.{has_name}
 use Rattle.ps_core.specs.State.{State, seen, sub_row}
 use Rattle.ps_core.proofs.carrying.Kept.{sub-named-seen}
 use Rattle.ps_core.proofs.carrying.Outcomes.{outcome-open, carried-shown}

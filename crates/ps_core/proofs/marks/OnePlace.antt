@@ -6,7 +6,7 @@ use Rattle.ps_model.specs.declared.world.MarkRow.{MarkRow}
 use Rattle.ps_model.specs.declared.world.SubRow.{SubRow}
 use Rattle.ps_model.specs.Slots.{remark, remarked}
 use Rattle.ps_model.specs.Worlds.{row_of}
-use Rattle.ps_core.specs.declared.kept_subscription.KeptSubscription.{KeptSubscription}
+use Rattle.ps_tables.specs.declared.kept_subscription.KeptSubscription.{KeptSubscription}
 use Rattle.ps_core.specs.State.{sub_row}
 
 -- the row of a subscription in place of that with its number

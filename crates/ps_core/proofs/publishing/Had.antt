@@ -9,15 +9,18 @@ use Rattle.ps_model.specs.declared.mark.Slot.{Slot}
 use Rattle.ps_model.specs.declared.world.MessageRow.{MessageRow}
 use Rattle.ps_model.specs.Forwarding.{message_rows}
 use Rattle.ps_sub.specs.Showing.{has}
-use Rattle.ps_core.specs.declared.kept_subscription.KeptSubscription.{KeptSubscription}
-use Rattle.ps_core.specs.declared.tables.KeptMessage.{KeptMessage}
-use Rattle.ps_core.specs.Effects.{add_published, enter_subscription, is_attached, is_had, let_go, slot_in, wanted_of}
-use Rattle.ps_core.specs.Keeping.{IsCounted, holders_of}
+use Rattle.ps_tables.specs.declared.kept_subscription.KeptSubscription.{KeptSubscription}
+use Rattle.ps_tables.specs.declared.tables.KeptMessage.{KeptMessage}
+use Rattle.ps_core.specs.Effects.{add_published, let_go}
+use Rattle.ps_tables.specs.Subscriptions.{enter_subscription, is_attached, is_had, slot_in, wanted_of}
+use Rattle.ps_core.specs.Keeping.{IsCounted}
+use Rattle.ps_tables.specs.Members.{holders_of}
 use Rattle.ps_core.specs.State.{State}
 use Rattle.ps_core.specs.Steady.{IsJoined, IsSteadySubscription, IsSteady}
 use Rattle.ps_base.proofs.Lists.{any-none, each-left, each-map, each-then, each-then-both}
-use Rattle.ps_core.proofs.publishing.Holders.{AllBelow}
-use Rattle.ps_core.proofs.publishing.Rows.{rows-from}
+use Rattle.ps_tables.proofs.lists.Filtered.{filter-all}
+use Rattle.ps_tables.proofs.publishing.Holders.{AllBelow}
+use Rattle.ps_tables.proofs.publishing.Rows.{rows-from}
 use Rattle.ps_core.proofs.publishing.World.{new_slots, slots-entered, with_published}
 
 -- new slots have new numbers
@@ -79,10 +82,6 @@ old-had at topic messages s h =
     each-then-both (λ (m : MessageRow). m.number < s.next_message) (λ (m : MessageRow). is_had s.subscriptions m.number ≡ true) (λ (m : MessageRow). is_had (map (enter_subscription topic (message_rows topic s.next_message at messages)) s.subscriptions) m.number ≡ true) s.messages
     (λ m below had. had-old topic s.next_message at m.number messages s.subscriptions below ∙ had) h.messages_below h.wanted
 
-pub all-pass : {A : Type 0} (test : A → Bool) (xs : List A) → AllByRecursion (λ (x : A). test x ≡ true) xs → filter test xs ≡ xs
-all-pass test [] h = refl
-all-pass test (x ∷ xs) h = rw (h.0) (ap (λ ys. x ∷ ys) (all-pass test xs h.1))
-
 -- of all messages those stay that some subscription has
 pub published-left : (at topic : ℕ) (messages : List Message) (s : State) → IsSteady s → let_go (with_published at topic messages s) ≡ add_published at topic messages s
 published-left at topic messages s h =
@@ -90,7 +89,7 @@ published-left at topic messages s h =
     let subscriptions : List KeptSubscription = map (enter_subscription topic rows) s.subscriptions in
     let test : MessageRow → Bool = λ m. is_had subscriptions m.number in
     ap (λ (kept : List MessageRow). record s { next_message = s.next_message + length rows; subscriptions = subscriptions; messages = kept })
-    (filter-append test s.messages rows ∙ ap (λ (kept : List MessageRow). kept ++ filter test rows) (all-pass test s.messages (old-had at topic messages s h)))
+    (filter-append test s.messages rows ∙ ap (λ (kept : List MessageRow). kept ++ filter test rows) (filter-all test s.messages (old-had at topic messages s h)))
 
 -- the counts of old messages stay right
 pub counted-old : (at topic next : ℕ) (messages : List Message) (xs : List KeptSubscription) (kept : List KeptMessage) → AllByRecursion (λ (x : KeptMessage). x.row.number < next) kept → AllByRecursion (IsCounted xs) kept

@@ -9,11 +9,12 @@ use Rattle.ps_model.specs.Failing.{is_due}
 use Rattle.ps_model.specs.Forwarding.{message_rows}
 use Rattle.ps_model.specs.Same.{same_world, WorldParts}
 use Rattle.ps_model.proofs.SameLemmas.{same-world}
-use Rattle.ps_core.specs.declared.kept_subscription.KeptSubscription.{KeptSubscription}
+use Rattle.ps_tables.specs.declared.kept_subscription.KeptSubscription.{KeptSubscription}
 use Rattle.ps_core.specs.State.{State, seen}
-use Rattle.ps_core.specs.Effects.{add_published, enter_subscription, is_any_due, is_attached, slot_in, wanted_of}
-use Rattle.ps_core.specs.Entering.{enter_wanted}
-use Rattle.ps_core.proofs.publishing.Rows.{rows-length}
+use Rattle.ps_core.specs.Effects.{add_published, is_any_due}
+use Rattle.ps_tables.specs.Subscriptions.{enter_subscription, is_attached, slot_in, wanted_of}
+use Rattle.ps_tables.specs.Entering.{enter_wanted}
+use Rattle.ps_tables.proofs.publishing.Rows.{rows-length}
 
 pub published-moves : (at topic : ℕ) (messages : List Message) (s : State) → 0 < length messages → same_world (seen s) (seen (add_published at topic messages s)) ≡ false
 published-moves at topic messages s some =

@@ -26,22 +26,26 @@ use Rattle.ps_model.specs.Same.{same_world}
 use Rattle.ps_model.specs.Slots.{is_gone}
 use Rattle.ps_model.specs.Topics.{publish_at}
 use Rattle.ps_model.specs.Worlds.{topic_named}
-use Rattle.ps_core.specs.declared.kept_subscription.KeptSubscription.{KeptSubscription}
-use Rattle.ps_core.specs.declared.tables.KeptMessage.{KeptMessage}
-use Rattle.ps_core.specs.declared.tables.KeptTopic.{KeptTopic}
-use Rattle.ps_core.specs.declared.tables.Tables.{Tables}
+use Rattle.ps_tables.specs.declared.kept_subscription.KeptSubscription.{KeptSubscription}
+use Rattle.ps_tables.specs.declared.tables.KeptMessage.{KeptMessage}
+use Rattle.ps_tables.specs.declared.tables.KeptTopic.{KeptTopic}
+use Rattle.ps_tables.specs.declared.tables.Tables.{Tables}
 use Rattle.ps_core.specs.Carrying.{IsCarried}
-use Rattle.ps_core.specs.Effects.{add_published, enter_subscription, is_had, let_go, recorded_at}
-use Rattle.ps_core.specs.Entering.{CanPublish, IsBefore, IsPublished, IsReady, kept_by}
-use Rattle.ps_core.specs.Keeping.{HasMembers, IsCounted, IsKept, IsNumbered, attached_at, numbered, state_of, subscription_at, the_message, the_row}
-use Rattle.ps_core.specs.State.{State, flat_marks, number_of, seen, sub_row}
+use Rattle.ps_core.specs.Effects.{add_published, let_go, recorded_at}
+use Rattle.ps_tables.specs.Subscriptions.{enter_subscription, is_had, number_of}
+use Rattle.ps_tables.specs.Entering.{CanPublish, IsBefore, IsPublished, IsReady, kept_by}
+use Rattle.ps_tables.specs.Members.{HasMembers, attached_at, numbered}
+use Rattle.ps_core.specs.Keeping.{IsCounted, IsKept, state_of, subscription_at, the_message, the_row}
+use Rattle.ps_tables.specs.Numbers.{IsNumbered}
+use Rattle.ps_core.specs.State.{State, flat_marks, seen, sub_row}
 use Rattle.ps_core.specs.Steady.{IsJoined, IsPlainMark, IsSteadySubscription, IsSteady}
 use Rattle.ps_base.proofs.Lists.{each-always, each-append, each-map, each-of-map, each-then}
+use Rattle.ps_tables.proofs.lists.Filtered.{filter-all}
 use Rattle.ps_core.proofs.carrying.Kept.{find-in-map}
 use Rattle.ps_core.proofs.carrying.Outcomes.{carried-made, carried-shown, outcome-open}
-use Rattle.ps_core.proofs.publishing.Had.{all-pass, counted-old, published-left}
+use Rattle.ps_core.proofs.publishing.Had.{counted-old, published-left}
 use Rattle.ps_core.proofs.publishing.Moving.{published-due, published-moves}
-use Rattle.ps_core.proofs.publishing.Rows.{rows-kept, rows-length}
+use Rattle.ps_tables.proofs.publishing.Rows.{rows-kept, rows-length}
 use Rattle.ps_core.proofs.publishing.Steady.{published-steady}
 use Rattle.ps_core.proofs.publishing.World.{add-seen, subs-entered, with_published}
 use Rattle.ps_core.proofs.settling.Expunging.{IsPlain, marks-each, plain-here, plain-steady}
@@ -112,8 +116,8 @@ live-plain s plain kept =
     let here : AllByRecursion (λ (r : MarkRow). not (is_gone r.mark) ≡ true) (flat_marks s.subscriptions) =
     each-then (λ (r : MarkRow). IsPlainMark r.mark) (λ (r : MarkRow). not (is_gone r.mark) ≡ true) (flat_marks s.subscriptions) (λ r h. ap not (plain-here r.mark h)) (marks-each IsPlainMark s.subscriptions plain.marks) in
     λ i. record (seen s) {
-      messages = all-pass (λ (m : MessageRow). m.kept) s.messages kept i;
-      marks = all-pass (λ (r : MarkRow). not (is_gone r.mark)) (flat_marks s.subscriptions) here i;
+      messages = filter-all (λ (m : MessageRow). m.kept) s.messages kept i;
+      marks = filter-all (λ (r : MarkRow). not (is_gone r.mark)) (flat_marks s.subscriptions) here i;
     }
 
 pub publish-carried : (at : ℕ) (name : List ℕ) (messages : List Message) (s : State) (topic : TopicRow) → IsSteady s → s.count < 2 ^ 50 → s.now ≤ at → at ≤ last_moment → publish_fault messages ≡ None → topic_named (seen s) name ≡ Some topic

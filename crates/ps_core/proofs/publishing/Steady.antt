@@ -13,16 +13,17 @@ use Rattle.ps_model.specs.Seeking.{fresh}
 use Rattle.ps_model.specs.Sound.{Ordered}
 use Rattle.ps_model.specs.Worlds.{item_at, message_numbered, no_message}
 use Rattle.ps_sub.specs.Showing.{has}
-use Rattle.ps_core.specs.declared.kept_subscription.KeptSubscription.{KeptSubscription}
+use Rattle.ps_tables.specs.declared.kept_subscription.KeptSubscription.{KeptSubscription}
 use Rattle.ps_core.specs.State.{State}
 use Rattle.ps_core.specs.Steady.{HasGoodSettings, IsJoined, IsSteadySubscription, IsSteady}
-use Rattle.ps_core.specs.Effects.{add_published, enter_subscription, filter_of, is_attached, is_had, recorded_at, slot_in, wanted_of}
-use Rattle.ps_core.specs.Entering.{enter_wanted, is_wanted}
+use Rattle.ps_core.specs.Effects.{add_published, recorded_at}
+use Rattle.ps_tables.specs.Subscriptions.{enter_subscription, filter_of, is_attached, is_had, slot_in, wanted_of}
+use Rattle.ps_tables.specs.Entering.{enter_wanted, is_wanted}
 use Rattle.ps_base.proofs.Lists.{each-append, each-both, each-filter, each-left, each-map, each-then, each-then-both, find-behind, find-front, find-none}
-use Rattle.ps_core.proofs.marks.Ordered.{ordered-append, ordered-map}
+use Rattle.ps_tables.proofs.lists.Ordered.{ordered-append, ordered-map}
 use Rattle.ps_core.proofs.publishing.Had.{new-from, old-had, own-had, slots-below}
-use Rattle.ps_core.proofs.publishing.Holders.{rows-in}
-use Rattle.ps_core.proofs.publishing.Rows.{rows-from, rows-kept, rows-length, rows-ordered, rows-published, rows-to}
+use Rattle.ps_tables.proofs.publishing.Holders.{rows-in}
+use Rattle.ps_tables.proofs.publishing.Rows.{rows-from, rows-kept, rows-length, rows-ordered, rows-published, rows-to}
 use Rattle.ps_core.proofs.publishing.World.{new_slots, number-entered, slots-entered}
 
 -- ---- look-ups among the messages

@@ -10,14 +10,14 @@ use Rattle.ps_model.specs.declared.world.MarkRow.{MarkRow}
 use Rattle.ps_model.specs.Forwarding.{message_rows, enters, entered, enter_all, add_messages}
 use Rattle.ps_model.specs.Seeking.{fresh}
 use Rattle.ps_model.specs.Worlds.{row_of}
-use Rattle.ps_core.specs.declared.kept_subscription.KeptSubscription.{KeptSubscription}
-use Rattle.ps_core.specs.Effects.{enter_subscription, is_attached, slot_in, wanted_of}
-use Rattle.ps_core.specs.Entering.{enter_wanted, is_wanted}
-use Rattle.ps_core.specs.State.{State, sub_row, flat_marks, number_of, slots_in, seen}
+use Rattle.ps_tables.specs.declared.kept_subscription.KeptSubscription.{KeptSubscription}
+use Rattle.ps_tables.specs.Subscriptions.{enter_subscription, is_attached, slot_in, wanted_of, number_of}
+use Rattle.ps_tables.specs.Entering.{enter_wanted, is_wanted}
+use Rattle.ps_core.specs.State.{State, sub_row, flat_marks, slots_in, seen}
 use Rattle.ps_core.specs.Steady.{IsSteady}
 use Rattle.ps_base.proofs.Lists.{each-then}
 use Rattle.ps_core.proofs.marks.Entering.{enter-flat}
-use Rattle.ps_core.proofs.publishing.Rows.{rows-topic}
+use Rattle.ps_tables.proofs.publishing.Rows.{rows-topic}
 
 -- the slots that enter a subscription
 abbrev pub new_slots : ℕ → List MessageRow → KeptSubscription → List Slot

@@ -17,16 +17,18 @@ use Rattle.ps_model.specs.Settling.{end_leases, ended_letters, expunge_world, se
 use Rattle.ps_model.specs.Slots.{any_earlier, remark, remarked}
 use Rattle.ps_model.specs.Worlds.{slots_of}
 use Rattle.ps_sub.specs.Showing.{has}
-use Rattle.ps_core.specs.declared.kept_subscription.KeptSubscription.{KeptSubscription}
-use Rattle.ps_core.specs.State.{State, number_of, seen, sub_row}
+use Rattle.ps_tables.specs.declared.kept_subscription.KeptSubscription.{KeptSubscription}
+use Rattle.ps_core.specs.State.{State, seen, sub_row}
+use Rattle.ps_tables.specs.Subscriptions.{number_of, is_had, with_slots}
 use Rattle.ps_core.specs.Steady.{HasGoodSettings, IsPlainMark, IsJoined, IsSteadySubscription, IsSteady}
-use Rattle.ps_core.specs.Effects.{is_had, with_slots, settle_subscription, settle_state}
-use Rattle.ps_core.specs.Keeping.{IsKept, IsNumbered}
+use Rattle.ps_core.specs.Effects.{settle_subscription, settle_state}
+use Rattle.ps_core.specs.Keeping.{IsKept}
+use Rattle.ps_tables.specs.Numbers.{IsNumbered}
 use Rattle.ps_core.specs.Settling.{has_due}
-use Rattle.ps_core.specs.declared.tables.Tables.{Tables}
+use Rattle.ps_tables.specs.declared.tables.Tables.{Tables}
 use Rattle.ps_base.proofs.Lists.{each-always, each-map, each-then}
 use Rattle.ps_core.proofs.carrying.Kept.{IsSameHolder, kept-changed}
-use Rattle.ps_core.proofs.marks.Ordered.{ordered-map}
+use Rattle.ps_tables.proofs.lists.Ordered.{ordered-map}
 use Rattle.ps_core.proofs.settling.Expunging.{expunge-seen}
 use Rattle.ps_core.proofs.checking.Faults.{plainly}
 use Rattle.ps_core.proofs.settling.Passes.{pass-seen, remark_subscription}

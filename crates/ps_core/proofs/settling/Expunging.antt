@@ -18,10 +18,10 @@ use Rattle.ps_model.specs.Settling.{expire, catch_up, release, is_wanted, let_go
 use Rattle.ps_model.specs.Slots.{is_gone, is_done, is_unacked, any_earlier}
 use Rattle.ps_model.specs.Worlds.{sub_numbered, slots_of, slot_of, row_of, new_mark, remark_all, holds_of, window_of}
 use Rattle.ps_sub.specs.Showing.{has}
-use Rattle.ps_core.specs.declared.kept_subscription.KeptSubscription.{KeptSubscription}
+use Rattle.ps_tables.specs.declared.kept_subscription.KeptSubscription.{KeptSubscription}
 use Rattle.ps_core.specs.State.{State, seen, flat_marks}
 use Rattle.ps_core.specs.Built.{unbuilt_topic_setting}
-use Rattle.ps_core.specs.Effects.{is_had}
+use Rattle.ps_tables.specs.Subscriptions.{is_had}
 use Rattle.ps_core.specs.Steady.{IsPlainMark, IsJoined, IsSteadySubscription, IsSteady}
 use Rattle.ps_base.proofs.Lists.{each-append, each-map, each-then, each-then-both, map-alike, map-rests}
 use Rattle.ps_core.proofs.settling.Passes.{pass-rests}

@@ -5,15 +5,15 @@ use Rattle.std.specs.BTreeMap.{is_at}
 use Rattle.std.specs.Map.{lookup, set_value, values_of}
 use Rattle.std.proofs.Math.ListN.{drop_of_length-le}
 use Rattle.std.proofs.lemmas.Bool.{cond_both, eq-eqb, eqb-true, false≢true, ne_eqb, or_right}
-use Rattle.ps_core.specs.declared.kept_subscription.KeptSubscription.{KeptSubscription}
+use Rattle.ps_tables.specs.declared.kept_subscription.KeptSubscription.{KeptSubscription}
 use Rattle.ps_core.specs.Effects.{settle_subscription}
-use Rattle.ps_core.specs.Keeping.{IsNumbered}
+use Rattle.ps_tables.specs.Numbers.{IsNumbered}
 use Rattle.ps_core.specs.Settling.{due_numbers, has_due, settle_numbered}
-use Rattle.ps_core.specs.State.{number_of}
+use Rattle.ps_tables.specs.Subscriptions.{number_of}
 use Rattle.ps_model.specs.Sound.{Ordered}
 use Rattle.ps_base.proofs.Lists.{each-then, map-rests, map-same, found-passes, none-found}
-use Rattle.ps_core.proofs.marks.Ordered.{ordered-map}
-use Rattle.ps_core.proofs.marks.Numbered.{numbered-found, numbered-put, numbered-put-keys}
+use Rattle.ps_tables.proofs.lists.Ordered.{ordered-map}
+use Rattle.ps_tables.proofs.numbers.Numbered.{numbered-found, numbered-put, numbered-put-keys}
 use Rattle.ps_core.proofs.settling.Moving.{settle-again, rest-subscription}
 
 -- where the first doesn't pass, those behind it decide

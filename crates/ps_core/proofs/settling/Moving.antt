@@ -16,10 +16,11 @@ use Rattle.ps_model.specs.Slots.{any_earlier, remarked}
 use Rattle.ps_model.specs.Worlds.{row_of}
 use Rattle.ps_model.proofs.SameLemmas.{same-world}
 use Rattle.ps_sub.proofs.DueLemmas.{fail-rest}
-use Rattle.ps_core.specs.declared.kept_subscription.KeptSubscription.{KeptSubscription}
+use Rattle.ps_tables.specs.declared.kept_subscription.KeptSubscription.{KeptSubscription}
 use Rattle.ps_core.specs.State.{State, seen, flat_marks}
 use Rattle.ps_core.specs.Steady.{IsSteady}
-use Rattle.ps_core.specs.Effects.{with_slots, settle_subscription, settle_state, is_any_due}
+use Rattle.ps_tables.specs.Subscriptions.{with_slots}
+use Rattle.ps_core.specs.Effects.{settle_subscription, settle_state, is_any_due}
 use Rattle.ps_core.specs.Settling.{has_due}
 
 -- where no lease is over, the subscription stays

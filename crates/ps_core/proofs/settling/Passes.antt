@@ -11,10 +11,10 @@ use Rattle.ps_model.specs.declared.world.MarkRow.{MarkRow}
 use Rattle.ps_model.specs.Slots.{remarked}
 use Rattle.ps_model.specs.Sound.{Ordered}
 use Rattle.ps_model.specs.Worlds.{sub_numbered, slots_of, slot_of, row_of, rows_of, new_mark, remark_row, remark_all}
-use Rattle.ps_core.specs.declared.kept_subscription.KeptSubscription.{KeptSubscription}
-use Rattle.ps_core.specs.State.{State, seen, sub_row, flat_marks, number_of, slots_in}
+use Rattle.ps_tables.specs.declared.kept_subscription.KeptSubscription.{KeptSubscription}
+use Rattle.ps_core.specs.State.{State, seen, sub_row, flat_marks, slots_in}
+use Rattle.ps_tables.specs.Subscriptions.{number_of, with_slots}
 use Rattle.ps_core.specs.Steady.{IsJoined}
-use Rattle.ps_core.specs.Effects.{with_slots}
 use Rattle.ps_base.proofs.Lists.{each-then, each-then-both, map-rests, map-unseen}
 use Rattle.ps_core.proofs.marks.Flat.{rows-above, rows-other, rows-own, slots-at}
 

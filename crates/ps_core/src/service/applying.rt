@@ -4,9 +4,9 @@ ghost use Rattle.ps_model.specs.Checks.{argument_fault, as_read, is_normal};
 ghost use Rattle.ps_model.specs.declared.reply.Reply.{Reply};
 ghost use Rattle.ps_core.specs.Built.{unbuilt};
 
-use crate::built::{argument_fault, is_tick, unbuilt};
+use crate::built::is_tick;
+use crate::service::Core;
 use crate::service::outcome::Outcome;
-use crate::service::{Core, MOST_ENTRIES};
 use ps_base::{Moment, OutOfMemory};
 use ps_model::{Command, Entry, is_normal};
 use std::alloc::Global;
@@ -23,11 +23,7 @@ impl Core {
         ensures refused { IfOk result (λ refused. refused ≡ is_some (refusal_of (seen self.now) command.now)) }
         ensures steady { IsSteady self.now }
     {
-        let full = self.count == MOST_ENTRIES;
-        if unbuilt(command).is_some() {
-            return Ok(true);
-        }
-        Ok(argument_fault(alloc, command)?.is_some() || full)
+        Ok(self.refusal(alloc, command)?.is_some())
     }
 
     /// Carries out a command like `carry`, and returns only whether it changed the world.

@@ -6,10 +6,10 @@ ghost use Rattle.ps_model.specs.Slots.{is_backlog, is_leased};
 ghost use Rattle.ps_core.specs.State.{flat_marks};
 ghost use Rattle.ps_core.specs.Stats.{capped};
 
-use crate::kept_subscription::KeptSubscription;
 use crate::service::Core;
 use ps_model::Stat;
 use ps_sub::SubCounts;
+use ps_tables::KeptSubscription;
 use std::collections::BTreeMap;
 
 impl Core {

@@ -4,18 +4,18 @@ ghost use Rattle.ps_config.specs.Masks.{whole_mask};
 ghost use Rattle.ps_model.specs.Checks.{filter_setting_fault, new_sub_fault};
 ghost use Rattle.ps_model.specs.declared.command.Command.TheVariants.{CreateTopic, CreateSubscription};
 ghost use Rattle.ps_core.specs.Built.{unbuilt_topic_setting, unbuilt_sub_setting};
-ghost use Rattle.ps_core.specs.Effects.{filter_of, new_subscription};
+ghost use Rattle.ps_tables.specs.Subscriptions.{filter_of};
+ghost use Rattle.ps_core.specs.Effects.{new_subscription};
 
-use crate::kept_subscription::KeptSubscription;
-use crate::service::Core;
 use crate::service::looking::topic_shown;
 use crate::service::outcome::Outcome;
-use crate::tables::Tables;
+use crate::service::{Core, give_up};
 use ps_base::{Duplicate, Moment, OutOfMemory};
 use ps_filter::Filter;
 use ps_model::{Reply, SubConfig, TopicConfig, TopicRow};
 use ps_names::{SubName, TopicName};
 use ps_sub::Sub;
+use ps_tables::KeptSubscription;
 use std::alloc::Global;
 
 impl Core {
@@ -46,8 +46,7 @@ impl Core {
         // Counted first: there are never more topics than entries.
         self.record(at);
         if let Err(error) = self.tables.add_topic(alloc, row) {
-            self.tables = Tables::new(alloc);
-            return Err(error);
+            return Err(give_up(&mut self.tables, alloc, error));
         }
         self.next_topic += 1;
         Ok(Outcome::changes(Reply::Topic(shown)))
@@ -80,8 +79,7 @@ impl Core {
         // Counted first: there are never more subscriptions than entries.
         self.record(at);
         if let Err(error) = self.tables.add_subscription(alloc, subscription) {
-            self.tables = Tables::new(alloc);
-            return Err(error);
+            return Err(give_up(&mut self.tables, alloc, error));
         }
         self.next_sub += 1;
         Ok(Outcome::changes(Reply::Subscription(shown)))

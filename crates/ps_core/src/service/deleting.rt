@@ -1,7 +1,6 @@
 ghost use Rattle.std.specs.Prelude.{◌≡◌, None, IfOk};
 ghost use Rattle.ps_model.specs.declared.command.Command.TheVariants.{DeleteSubscription, DeleteTopic, Detach};
 
-use crate::releasing::release;
 use crate::service::Core;
 use crate::service::outcome::Outcome;
 use ps_base::{Moment, OutOfMemory};
@@ -49,10 +48,9 @@ impl Core {
         let topic = subscription.topic;
         let marks = subscription.sub.marks(alloc)?;
         self.record(at);
+        self.tables.leave(topic, name.text(), marks.as_slice());
         self.tables.subscription_numbers.remove(name.text());
-        self.tables.leave_topic(topic, name.text());
         let _subscription = self.tables.subscriptions.remove(&number);
-        release(&mut self.tables.messages, marks.as_slice());
         Ok(Outcome::changes(Reply::Empty))
     }
 
@@ -77,9 +75,8 @@ impl Core {
         let topic = subscription.topic;
         let marks = subscription.sub.marks(alloc)?;
         self.record(at);
-        self.tables.leave_topic(topic, name.text());
+        self.tables.leave(topic, name.text(), marks.as_slice());
         self.tables.detach(number);
-        release(&mut self.tables.messages, marks.as_slice());
         Ok(Outcome::changes(Reply::Empty))
     }
 }

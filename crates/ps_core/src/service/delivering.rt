@@ -4,20 +4,20 @@ ghost use Rattle.ps_message.specs.Limits.{most_messages};
 ghost use Rattle.ps_model.specs.declared.command.Command.TheVariants.{Pull, Acknowledge};
 ghost use Rattle.ps_model.specs.Answering.{ticket_of};
 ghost use Rattle.std.specs.BTreeMap.{values};
-ghost use Rattle.ps_core.specs.Keeping.{IsNumbered, the_message};
+ghost use Rattle.ps_tables.specs.Numbers.{IsNumbered};
+ghost use Rattle.ps_core.specs.Keeping.{the_message};
 ghost use Rattle.ps_model.specs.Worlds.{message_at};
 ghost use Rattle.ps_model.specs.Checks.{as_read};
-ghost use Rattle.ps_core.specs.Delivering.{received, received_all, tickets_of};
+ghost use Rattle.ps_core.specs.Delivering.{pulled, received, received_all, tickets_of};
 ghost use Rattle.ps_core.specs.Effects.{given_of, lend_subscription, ack_subscription};
 
-use crate::kept_subscription::KeptSubscription;
-use crate::service::Core;
 use crate::service::outcome::Outcome;
-use crate::tables::{KeptMessage, Tables};
+use crate::service::{Core, give_up};
 use ps_base::{AckId, Duplicate, Labels, List, Moment, Octets, OutOfMemory, Reason, Text};
 use ps_message::Message;
 use ps_model::{Handed, ReceivedMessage, Reply, Ticket};
 use ps_names::SubName;
+use ps_tables::{KeptMessage, KeptSubscription};
 use std::alloc::Global;
 use std::collections::BTreeMap;
 
@@ -53,10 +53,7 @@ impl Core {
         let messages = &self.tables.messages;
         let items = match hand_out(alloc, at, max, budget, seconds, subscription, messages) {
             Ok(items) => items,
-            Err(error) => {
-                self.tables = Tables::new(alloc);
-                return Err(error);
-            }
+            Err(error) => return Err(give_up(&mut self.tables, alloc, error)),
         };
         let changed = items.len() != 0;
         if changed {
@@ -98,10 +95,7 @@ impl Core {
         };
         let changed = match take_back(alloc, ids, subscription) {
             Ok(changed) => changed,
-            Err(error) => {
-                self.tables = Tables::new(alloc);
-                return Err(error);
-            }
+            Err(error) => return Err(give_up(&mut self.tables, alloc, error)),
         };
         if changed {
             self.clock = at.milliseconds();
@@ -132,7 +126,7 @@ fn hand_out(
     requires lease { seconds ≤ most_ack_seconds }
     requires leases { subscription.old.sub.next_lease ≤ 2 ^ 61 }
     requires messages { IsNumbered (λ x. x.row.number) messages.now.entries }
-    ensures items { IfOk result (λ items. items ≡ received_all subscription.old.number (map the_message (values messages.now)) (given_of at max budget subscription.old)) }
+    ensures items { IfOk result (λ items. items ≡ pulled at max budget subscription.old (values messages.now)) }
     ensures after { OnOk result (subscription.new ≡ lend_subscription (at + 1000 * seconds) (given_of at max budget subscription.old) subscription.old) }
 {
     let now = at.milliseconds();

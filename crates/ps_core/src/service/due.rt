@@ -5,9 +5,9 @@ ghost use Rattle.ps_model.specs.Same.{same_world};
 ghost use Rattle.ps_model.specs.Step as rules;
 ghost use Rattle.ps_core.specs.Settling.{has_due};
 
-use crate::kept_subscription::KeptSubscription;
 use crate::service::Core;
 use ps_base::Moment;
+use ps_tables::KeptSubscription;
 use std::collections::BTreeMap;
 
 impl Core {

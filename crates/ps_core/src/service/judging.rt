@@ -183,7 +183,11 @@ impl Core {
     }
 
     /// Why a command is refused before the state is looked at.
-    fn refusal(&self, alloc: Global, command: &Command) -> Result<Option<Refusal>, OutOfMemory>
+    pub(super) fn refusal(
+        &self,
+        alloc: Global,
+        command: &Command,
+    ) -> Result<Option<Refusal>, OutOfMemory>
         ensures refusal { IfOk result (λ refusal. refusal ≡ refusal_of (seen self.now) command.now) }
         ensures steady { IsSteady self.now }
     {

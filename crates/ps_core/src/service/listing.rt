@@ -8,21 +8,15 @@ ghost use Rattle.ps_core.specs.Pages.{HasSubscriptionsOf, front_of, rows_at, sub
 ghost use Rattle.ps_core.specs.Steady.{IsSteady};
 ghost use Rattle.ps_core.specs.State.{seen, sub_row, topic_number};
 
-use crate::kept_subscription::KeptSubscription;
-use crate::name_index::NameIndex;
 use crate::service::Core;
 use crate::service::looking::topic_shown;
 use crate::service::outcome::Outcome;
 use ps_base::{List, Moment, OutOfMemory, Text};
+use ps_config::{DEFAULT_PAGE, MOST_OF_PAGE};
 use ps_model::{PageItems, Paging, Reply, SubShown, TopicShown};
 use ps_names::{ProjectName, TopicName};
+use ps_tables::{KeptSubscription, NameIndex};
 use std::alloc::Global;
-
-/// How many names a page has if nothing is asked.
-const PAGE: u32 = 100;
-
-/// How many names a page has at most.
-const LONGEST_PAGE: u32 = 1_000;
 
 impl Core {
     ghost use Rattle.ps_core.specs.Carrying.{CanRecord, IsCarried};
@@ -171,7 +165,7 @@ fn page_size(size: u32) -> usize
     ensures { result ≡ page_size size }
 {
     match size {
-        0 => PAGE as usize,
-        size => size.min(LONGEST_PAGE) as usize,
+        0 => DEFAULT_PAGE as usize,
+        size => size.min(MOST_OF_PAGE) as usize,
     }
 }

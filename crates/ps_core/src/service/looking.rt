@@ -2,16 +2,15 @@ ghost use Rattle.std.specs.Prelude.{◌≡◌, None, Some, IfOk, MatchOption, fi
 ghost use Rattle.ps_model.specs.declared.command.Command.TheVariants.{GetSubscription, GetTopic};
 ghost use Rattle.ps_model.specs.Showing.{sub_shown, topic_shown};
 ghost use Rattle.ps_model.specs.Worlds as world;
-ghost use Rattle.ps_core.specs.Keeping.{has_name};
+ghost use Rattle.ps_tables.specs.Members.{has_name};
 ghost use Rattle.ps_core.specs.State.{seen, sub_row};
 
-use crate::kept_subscription::KeptSubscription;
 use crate::service::Core;
 use crate::service::outcome::Outcome;
-use crate::tables::KeptTopic;
 use ps_base::{Duplicate, Moment, OutOfMemory, Text};
 use ps_model::{Reply, SubShown, TopicRow, TopicShown};
 use ps_names::{SubName, TopicName};
+use ps_tables::{KeptSubscription, KeptTopic};
 use std::alloc::Global;
 
 impl Core {

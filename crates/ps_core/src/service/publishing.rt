@@ -2,9 +2,8 @@ ghost use Rattle.std.specs.Prelude.{◌≡◌, ◌≤◌, ◌<◌, ◌^◌, None
 ghost use Rattle.ps_message.specs.Messages.{publish_fault};
 ghost use Rattle.ps_model.specs.declared.command.Command.TheVariants.{Publish};
 
-use crate::service::Core;
 use crate::service::outcome::Outcome;
-use crate::tables::Tables;
+use crate::service::{Core, give_up};
 use ps_base::{Moment, OutOfMemory};
 use ps_message::Message;
 use ps_model::Reply;
@@ -34,8 +33,7 @@ impl Core {
         // Counted first: there are never more messages than a thousand for each entry.
         self.record(at);
         if let Err(error) = self.tables.publish(alloc, number, first, at, messages) {
-            self.tables = Tables::new(alloc);
-            return Err(error);
+            return Err(give_up(&mut self.tables, alloc, error));
         }
         self.next_message += messages.len() as u64;
         Ok(Outcome::changes(Reply::Published {

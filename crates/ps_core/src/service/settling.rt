@@ -3,15 +3,14 @@ ghost use Rattle.std.specs.BTreeMap.{values};
 ghost use Rattle.std.specs.List.{list_any};
 ghost use Rattle.ps_model.specs.Sound.{Ordered};
 ghost use Rattle.ps_core.specs.Effects.{settle_subscription};
-ghost use Rattle.ps_core.specs.Keeping.{IsNumbered};
+ghost use Rattle.ps_tables.specs.Numbers.{IsNumbered};
 ghost use Rattle.ps_core.specs.Settling.{due_numbers, has_due, settle_numbered};
-ghost use Rattle.ps_core.specs.State.{number_of};
+ghost use Rattle.ps_tables.specs.Subscriptions.{number_of};
 
-use crate::kept_subscription::KeptSubscription;
-use crate::service::Core;
 use crate::service::due::{first_end_of_all, is_due};
-use crate::tables::Tables;
+use crate::service::{Core, give_up};
 use ps_base::{Moment, OutOfMemory};
+use ps_tables::KeptSubscription;
 use std::alloc::Global;
 use std::collections::BTreeMap;
 
@@ -40,10 +39,7 @@ impl Core {
                 self.next_end = settled.next_end;
                 Ok(settled.moved)
             }
-            Err(error) => {
-                self.tables = Tables::new(alloc);
-                Err(error)
-            }
+            Err(error) => Err(give_up(&mut self.tables, alloc, error)),
         }
     }
 }

@@ -5,21 +5,19 @@ ghost use Rattle.ps_model.specs.Checks.{argument_fault, new_sub_fault};
 ghost use Rattle.ps_model.specs.declared.command.Command.TheVariants.{UpdateSubscription, UpdateTopic};
 ghost use Rattle.ps_core.specs.Built.{unbuilt_topic_mask, unbuilt_topic_setting, unbuilt_sub_mask};
 ghost use Rattle.ps_model.specs.Sound.{Ordered};
-ghost use Rattle.ps_core.specs.Changing.{KeepsRest, change_subscription, change_topic, changed_at, kept_number, with_config, with_settings, with_topic_config};
-ghost use Rattle.ps_core.specs.Keeping.{IsNumbered};
-ghost use Rattle.ps_core.specs.State.{number_of};
+ghost use Rattle.ps_core.specs.Changing.{KeepsRest, change_subscription, change_topic, kept_number, with_config, with_settings, with_topic_config};
+ghost use Rattle.ps_tables.specs.Numbers.{changed_at, IsNumbered};
+ghost use Rattle.ps_tables.specs.Subscriptions.{number_of};
 ghost use Rattle.ps_core.specs.Steady.{HasGoodSettings, IsSteady};
 
-use crate::kept_subscription::KeptSubscription;
-use crate::same::{same_sub_config, same_topic_config};
-use crate::service::Core;
 use crate::service::looking::topic_shown;
 use crate::service::outcome::Outcome;
-use crate::tables::{KeptTopic, Tables};
+use crate::service::{Core, give_up};
 use ps_base::{Duplicate, Moment, OutOfMemory};
 use ps_config::{Mask, SubConfig, TopicConfig, apply_sub, apply_topic};
 use ps_model::Reply;
 use ps_names::{SubName, TopicName};
+use ps_tables::{KeptSubscription, KeptTopic, same_sub_config, same_topic_config};
 use std::alloc::Global;
 use std::collections::BTreeMap;
 
@@ -112,8 +110,7 @@ impl Core {
         ensures steady { OnOk result (IsSteady self.new) }
     {
         if let Err(error) = put_settings(&mut self.tables.subscriptions, alloc, number, config) {
-            self.tables = Tables::new(alloc);
-            return Err(error);
+            return Err(give_up(&mut self.tables, alloc, error));
         }
         Ok(())
     }

@@ -14,7 +14,7 @@ returns-in_default c =
     let tables = c.self.inside.tables in
     let name = c.args.name.now in
     let room : s.count < 2 ^ 50 = subst (λ (v : State). v.count < 2 ^ 50) (sym c.self.view_is) c.requires.can.room in
-    let nowhere = looked-up tables.subscription_numbers name c.text.result.now c.find.result None c.text.ensures.value c.find.ensures c.in_default.is in
+    let nowhere = looked-up tables.subscription_numbers name c.text.result.now c.find.result None c.text.ensures.value c.find.ensures.number c.in_default.is in
     rw (← c.self.view_is)
     (missing-carried c.args.at _ s _ name c.missing.result c.missing.ensures.reply c.missing.ensures.same c.text-in_default.ensures.value
     (ack-missing s c.self.inside.next_end tables c.self.invariant refl room name c.args.ids.now c.requires.some c.args.at nowhere))
@@ -24,7 +24,7 @@ returns-in_default-get_mut c =
     let s = the_view c.self.inside in
     let tables = c.self.inside.tables in
     let name = c.args.name.now in
-    let at = looked-up tables.subscription_numbers name c.text.result.now c.find.result (Some c.in-Some.number) c.text.ensures.value c.find.ensures c.in-Some.is in
+    let at = looked-up tables.subscription_numbers name c.text.result.now c.find.result (Some c.in-Some.number) c.text.ensures.value c.find.ensures.number c.in-Some.is in
     absurd (got-some s c.self.inside.next_end tables c.self.invariant refl name c.in-Some.number at c.in_default-get_mut.ensures.value)
 
 pub invariant_of-self-then-changed : goal.invariant_of-self-then-changed
@@ -35,7 +35,7 @@ invariant_of-self-then-changed c =
     let room : s.count < 2 ^ 50 = subst (λ (v : State). v.count < 2 ^ 50) (sym c.self.view_is) c.requires.can.room in
     let later : s.now ≤ c.args.at = subst (λ (v : State). v.now ≤ c.args.at) (sym c.self.view_is) c.requires.can.later in
     let within : c.args.at ≤ last_moment = omega (arith, c.milliseconds-self-inside.ensures.within, c.milliseconds-self-inside.ensures.value) in
-    let at = looked-up tables.subscription_numbers name c.text.result.now c.find.result (Some c.in-Some.number) c.text.ensures.value c.find.ensures c.in-Some.is in
+    let at = looked-up tables.subscription_numbers name c.text.result.now c.find.result (Some c.in-Some.number) c.text.ensures.value c.find.ensures.number c.in-Some.is in
     let x' = c.take_back.new.subscription in
     let there = got-there s c.self.inside.next_end tables c.self.invariant refl name c.in-Some.number at c.in-Some-get_mut.subscription.now c.in-Some-get_mut.ensures.value in
     rw c.milliseconds-self-inside.ensures.value
@@ -48,7 +48,7 @@ invariant_of-self-else-changed c =
     let tables = c.self.inside.tables in
     let name = c.args.name.now in
     let room : s.count < 2 ^ 50 = subst (λ (v : State). v.count < 2 ^ 50) (sym c.self.view_is) c.requires.can.room in
-    let at = looked-up tables.subscription_numbers name c.text.result.now c.find.result (Some c.in-Some.number) c.text.ensures.value c.find.ensures c.in-Some.is in
+    let at = looked-up tables.subscription_numbers name c.text.result.now c.find.result (Some c.in-Some.number) c.text.ensures.value c.find.ensures.number c.in-Some.is in
     let x' = c.take_back.new.subscription in
     let there = got-there s c.self.inside.next_end tables c.self.invariant refl name c.in-Some.number at c.in-Some-get_mut.subscription.now c.in-Some-get_mut.ensures.value in
     let rests =
@@ -64,7 +64,7 @@ returns c =
     let ids = c.args.ids.now in
     let room : s.count < 2 ^ 50 = subst (λ (v : State). v.count < 2 ^ 50) (sym c.self.view_is) c.requires.can.room in
     let later : s.now ≤ c.args.at = subst (λ (v : State). v.now ≤ c.args.at) (sym c.self.view_is) c.requires.can.later in
-    let at = looked-up tables.subscription_numbers name c.text.result.now c.find.result (Some c.in-Some.number) c.text.ensures.value c.find.ensures c.in-Some.is in
+    let at = looked-up tables.subscription_numbers name c.text.result.now c.find.result (Some c.in-Some.number) c.text.ensures.value c.find.ensures.number c.in-Some.is in
     let x = c.in-Some-get_mut.subscription.now in
     let x' = c.take_back.new.subscription in
     let there = got-there s c.self.inside.next_end tables c.self.invariant refl name c.in-Some.number at x c.in-Some-get_mut.ensures.value in
@@ -73,11 +73,11 @@ returns c =
     elim c.if-changed.branch [
       | then-changed w ↦
           let within : c.args.at ≤ last_moment = omega (arith, w.milliseconds-self-inside.ensures.within, w.milliseconds-self-inside.ensures.value) in
-          rw (w.self-is, w.milliseconds-self-inside.ensures.value, c.new-2.ensures, c.new-3.ensures, w.if-changed.true, ← c.self.view_is)
+          rw (w.self-is, w.milliseconds-self-inside.ensures.value, c.new.ensures, c.new-2.ensures, w.if-changed.true, ← c.self.view_is)
           (ack-moved s c.self.inside.next_end tables c.self.invariant refl room name ids c.requires.some c.args.at c.in-Some.number x there new x' put c.in-Ok.ensures.after later within (c.in-Ok.ensures.changed w.if-changed.true))
       | else-changed w ↦
           let same = c.in-Ok.ensures.same w.if-changed.false in
           let rests = ack-rests s c.self.inside.next_end tables c.self.invariant refl room name ids c.requires.some c.args.at c.in-Some.number x there new x' put c.in-Ok.ensures.after same in
-          rw (w.self-is, c.new-2.ensures, c.new-3.ensures, w.if-changed.false, rests, ← c.self.view_is)
+          rw (w.self-is, c.new.ensures, c.new-2.ensures, w.if-changed.false, rests, ← c.self.view_is)
           (ack-rested s c.self.inside.next_end tables c.self.invariant refl room name ids c.requires.some c.args.at c.in-Some.number x there new x' put c.in-Ok.ensures.after same)
     ]

@@ -1,7 +1,7 @@
 use Rattle.std.proofs.Common.{◌≡◌, true, nat_eq, refl, sym, subst}
 use Rattle.std.specs.List.{AllByRecursion}
-use Rattle.ps_core.specs.declared.kept_subscription.KeptSubscription.{KeptSubscription}
-use Rattle.ps_core.specs.declared.tables.Tables.{Tables}
+use Rattle.ps_tables.specs.declared.kept_subscription.KeptSubscription.{KeptSubscription}
+use Rattle.ps_tables.specs.declared.tables.Tables.{Tables}
 use Rattle.ps_core.specs.contracts.service.Core.{the_view}
 use Rattle.ps_core.specs.Changing.{KeepsRest}
 use Rattle.ps_core.specs.Keeping.{IsKept}

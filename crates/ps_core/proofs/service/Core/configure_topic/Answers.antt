@@ -3,7 +3,8 @@ use Rattle.ps_model.specs.declared.world.TopicRow.{TopicRow}
 use Rattle.ps_core.specs.Changing.{change_topic, with_config}
 use Rattle.ps_core.specs.Keeping.{IsKept, the_row}
 use Rattle.ps_core.specs.State.{State}
-use Rattle.ps_core.proofs.changing.Topics.{configured-view, kept-configured, ordered-of-map}
+use Rattle.ps_tables.proofs.lists.Ordered.{ordered-of-map}
+use Rattle.ps_core.proofs.changing.Topics.{configured-view, kept-configured}
 use Rattle.ps_core.proofs.service.Core.configure_topic.Goals as goal
 
 pub put_config-requires-clause-ordered : goal.put_config-requires-clause-ordered

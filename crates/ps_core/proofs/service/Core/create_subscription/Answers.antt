@@ -6,16 +6,17 @@ use Rattle.ps_model.specs.declared.reply.Reply.TheVariants.{Subscription}
 use Rattle.ps_model.specs.declared.world.TopicRow.{TopicRow}
 use Rattle.ps_model.specs.Showing.{sub_shown}
 use Rattle.ps_model.specs.Worlds.{topic_named}
-use Rattle.ps_core.specs.declared.kept_subscription.KeptSubscription.{KeptSubscription}
+use Rattle.ps_tables.specs.declared.kept_subscription.KeptSubscription.{KeptSubscription}
 use Rattle.ps_core.specs.Built.{unbuilt_topic_setting}
 use Rattle.ps_core.specs.Effects.{recorded_at, add_subscription, new_subscription}
-use Rattle.ps_core.specs.Keeping.{state_of, has_name, has_topic_name, the_message}
+use Rattle.ps_core.specs.Keeping.{state_of, has_topic_name, the_message}
+use Rattle.ps_tables.specs.Members.{has_name}
 use Rattle.ps_core.specs.State.{State, seen, sub_row, topic_number}
 use Rattle.ps_core.specs.Steady.{IsSteady}
-use Rattle.ps_core.specs.TableEdits.{JoinsTopic, PutsName}
+use Rattle.ps_tables.specs.TableEdits.{JoinsTopic, PutsName}
 use Rattle.ps_core.specs.contracts.service.Core.{the_view}
 use Rattle.ps_base.proofs.Lists.{each-found}
-use Rattle.ps_core.proofs.carrying.Kept.{found-by-number}
+use Rattle.ps_tables.proofs.numbers.Changes.{found-by-number}
 use Rattle.ps_core.proofs.carrying.Outcomes.{missing-carried, taken-carried}
 use Rattle.ps_core.proofs.creating.Kept.{joined, kept-subscription, subscriptions-added}
 use Rattle.ps_core.proofs.creating.Settings.{no-window}

@@ -9,7 +9,7 @@ use Rattle.ps_core.specs.Effects.{recorded_at, add_topic}
 use Rattle.ps_core.specs.Keeping.{state_of, the_message, the_row}
 use Rattle.ps_core.specs.State.{State, seen}
 use Rattle.ps_core.specs.Steady.{IsSteady}
-use Rattle.ps_core.specs.TableEdits.{AddsTopic, PutsName}
+use Rattle.ps_tables.specs.TableEdits.{AddsTopic, PutsName}
 use Rattle.ps_core.specs.contracts.service.Core.{the_view}
 use Rattle.ps_core.proofs.carrying.Outcomes.{taken-carried}
 use Rattle.ps_core.proofs.creating.Kept.{kept-topic, rows-added}

@@ -1,6 +1,6 @@
 use Rattle.std.proofs.Common.{◌∙◌, sym, ap, find, List, ℕ}
 use Rattle.ps_model.specs.declared.reply.Reply.TheVariants.{Subscription}
-use Rattle.ps_core.specs.Keeping.{has_name}
+use Rattle.ps_tables.specs.Members.{has_name}
 use Rattle.ps_core.proofs.carrying.Outcomes.{missing-carried}
 use Rattle.ps_core.proofs.looking.Shown.{subscription-missing, subscription-found}
 use Rattle.ps_core.proofs.service.Core.get_subscription.Goals as goal

@@ -9,7 +9,7 @@ use Rattle.ps_model.specs.Worlds.{topic_named}
 use Rattle.ps_core.specs.contracts.service.Core.{the_view}
 use Rattle.ps_core.specs.Carrying.{IsCarried}
 use Rattle.ps_core.specs.Effects.{add_published, recorded_at}
-use Rattle.ps_core.specs.Entering.{IsPublished}
+use Rattle.ps_tables.specs.Entering.{IsPublished}
 use Rattle.ps_core.specs.Keeping.{IsKept, has_topic_name}
 use Rattle.ps_core.specs.State.{State, seen}
 use Rattle.ps_core.specs.Steady.{IsSteady}
@@ -48,7 +48,7 @@ invariant_of-self-2 c =
     let messages = c.args.messages.now in
     let recorded : the_view inside ≡ recorded_at at s = c.self-2.view_is ∙ c.record.ensures in
     let next : c.self.inside.next_message ≡ inside.next_message = ap (λ (w : State). w.next_message) c.self.view_is ∙ sym (ap (λ (w : State). w.next_message) recorded) in
-    let published : IsPublished inside.next_message at topic messages inside.tables c.publish.new.self = subst (λ (n : ℕ). IsPublished n at topic messages inside.tables c.publish.new.self) next c.in_default-publish.ensures in
+    let published : IsPublished inside.next_message at topic messages inside.tables c.publish.new.self = subst (λ (n : ℕ). IsPublished n at topic messages inside.tables c.publish.new.self) next c.in_default-publish.ensures.published in
     let within : at ≤ last_moment = omega (arith, c.self-2.invariant.steady.now, ap (λ (w : State). w.now) recorded) in
     let before : IsSteady s = subst IsSteady c.self.view_is c.self.invariant.steady in
     let steady : IsSteady (add_published at topic messages (the_view inside)) =
@@ -67,7 +67,7 @@ returns c =
     let recorded : the_view inside ≡ recorded_at at s = c.self-2.view_is ∙ c.record.ensures in
     let first : c.self.inside.next_message ≡ s.next_message = ap (λ (w : State). w.next_message) c.self.view_is in
     let next : c.self.inside.next_message ≡ inside.next_message = first ∙ sym (ap (λ (w : State). w.next_message) recorded) in
-    let published : IsPublished inside.next_message at row.number messages inside.tables c.publish.new.self = subst (λ (n : ℕ). IsPublished n at row.number messages inside.tables c.publish.new.self) next c.in_default-publish.ensures in
+    let published : IsPublished inside.next_message at row.number messages inside.tables c.publish.new.self = subst (λ (n : ℕ). IsPublished n at row.number messages inside.tables c.publish.new.self) next c.in_default-publish.ensures.published in
     let within : at ≤ last_moment = omega (arith, c.self-2.invariant.steady.now, ap (λ (w : State). w.now) recorded) in
     let before : IsSteady s = subst IsSteady c.self.view_is c.self.invariant.steady in
     let named : topic_named (seen s) name ≡ Some row = ap (topic_named (seen s)) (sym c.text.ensures.value) ∙ c.in-Some.ensures in

@@ -1,7 +1,7 @@
 use Rattle.std.proofs.Common.{◌≡◌, ◌<◌, ℕ, List, arith, length, map, nat_eq, not, subst, sym, ap, ◌∙◌}
 use Rattle.std.specs.BTreeMap.{values}
 use Rattle.ps_model.specs.Sound.{Ordered}
-use Rattle.ps_core.specs.declared.kept_subscription.KeptSubscription.{KeptSubscription}
+use Rattle.ps_tables.specs.declared.kept_subscription.KeptSubscription.{KeptSubscription}
 use Rattle.ps_core.proofs.settling.Loop.{any-listed, listed-due, listed-end, listed-next, settle_listed, settled-order}
 use Rattle.ps_core.proofs.service.settling.settle_all.Goals as goal
 

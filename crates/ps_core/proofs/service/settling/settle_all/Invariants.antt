@@ -2,8 +2,8 @@ use Rattle.std.proofs.Common.{◌≡◌, ◌<◌, map, drop}
 use Rattle.std.specs.BTreeMap.{values}
 use Rattle.ps_model.specs.Sound.{Ordered}
 use Rattle.ps_core.specs.Effects.{settle_subscription}
-use Rattle.ps_core.specs.Keeping.{IsNumbered}
-use Rattle.ps_core.specs.State.{number_of}
+use Rattle.ps_tables.specs.Numbers.{IsNumbered}
+use Rattle.ps_tables.specs.Subscriptions.{number_of}
 use Rattle.ps_core.proofs.settling.Loop.{settle_listed}
 use Rattle.ps_core.proofs.service.settling.settle_all.Given as goal
 

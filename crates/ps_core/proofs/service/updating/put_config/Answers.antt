@@ -1,9 +1,9 @@
 use Rattle.std.proofs.Common.{sym, ap, ◌∙◌, subst}
 use Rattle.std.specs.Map.{values_of}
 use Rattle.ps_core.specs.Changing.{kept_number, with_topic_config}
-use Rattle.ps_core.specs.Keeping.{IsNumbered}
-use Rattle.ps_core.proofs.changing.Numbers.{found-number, none-changed, set-changes}
-use Rattle.ps_core.proofs.marks.Numbered.{numbered-found, numbered-put-keys}
+use Rattle.ps_tables.specs.Numbers.{IsNumbered}
+use Rattle.ps_tables.proofs.numbers.Changes.{found-number, none-changed, set-changes}
+use Rattle.ps_tables.proofs.numbers.Numbered.{numbered-found, numbered-put-keys}
 use Rattle.ps_core.proofs.service.updating.put_config.Goals as goal
 
 pub returns-in-Some-clause-numbered : goal.returns-in-Some-clause-numbered

@@ -2,12 +2,12 @@ use Rattle.std.proofs.Common.{◌≡◌, true, nat_cmp, nat_eq, find, Some, sym,
 use Rattle.std.specs.BTreeMap.{is_at}
 use Rattle.std.specs.Map.{set_value, values_of}
 use Rattle.ps_base.proofs.Lists.{each-found, found-passes}
-use Rattle.ps_core.specs.declared.kept_subscription.KeptSubscription.{KeptSubscription}
+use Rattle.ps_tables.specs.declared.kept_subscription.KeptSubscription.{KeptSubscription}
 use Rattle.ps_core.specs.Changing.{KeepsRest, with_settings}
-use Rattle.ps_core.specs.Keeping.{IsNumbered}
-use Rattle.ps_core.specs.State.{number_of}
-use Rattle.ps_core.proofs.changing.Numbers.{found-number, none-changed, set-changes, then-ok}
-use Rattle.ps_core.proofs.marks.Numbered.{numbered-found, numbered-put-keys}
+use Rattle.ps_tables.specs.Numbers.{IsNumbered}
+use Rattle.ps_tables.specs.Subscriptions.{number_of}
+use Rattle.ps_tables.proofs.numbers.Changes.{found-number, none-changed, set-changes, then-ok}
+use Rattle.ps_tables.proofs.numbers.Numbered.{numbered-found, numbered-put-keys}
 use Rattle.ps_core.proofs.service.updating.put_settings.Goals as goal
 
 pub configure-requires-clause-ordering : goal.configure-requires-clause-ordering

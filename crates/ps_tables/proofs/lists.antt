@@ -1,0 +1,4 @@
+pub mod Options
+pub mod Ordered
+pub mod Filtered
+pub mod Tallies
