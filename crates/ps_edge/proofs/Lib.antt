@@ -1,2 +1,4 @@
 pub mod PathLogLemmas
 pub mod Texts
+pub mod PieceLemmas
+pub mod LinkLemmas

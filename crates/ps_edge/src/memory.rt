@@ -10,7 +10,7 @@ use std::marker::Model;
 
 /// The numbers of the calls that fail, from 1, and how many calls there were.
 #[derive(Drop)]
-struct Script {
+pub(crate) struct Script {
     failing: base::List<u64>,
     calls: u64,
     faults: u64,
@@ -25,7 +25,7 @@ impl Model for Script {
 }
 
 impl Script {
-    fn new(failing: base::List<u64>) -> Script
+    pub(crate) fn new(failing: base::List<u64>) -> Script
         ensures { result ≡ unread failing }
     {
         Script {
@@ -36,7 +36,7 @@ impl Script {
     }
 
     /// Whether the next call is one that fails.
-    fn fails_next(&self) -> bool
+    pub(crate) fn fails_next(&self) -> bool
         ensures { result ≡ fails_next self.now }
     {
         let call = self.calls.saturating_add(1);
@@ -44,7 +44,7 @@ impl Script {
     }
 
     /// Counts a call, and its fault.
-    fn count(&mut self, failed: bool)
+    pub(crate) fn count(&mut self, failed: bool)
         ensures counted { self.new ≡ after_call self.old failed }
         ensures later { self.old.faults ≤ self.new.faults }
         ensures rose { IsTrue failed → Rose self.old.faults self.new.faults }

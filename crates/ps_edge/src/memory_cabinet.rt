@@ -3,124 +3,40 @@ ghost use Rattle.std.specs.Str.{bytes_eq};
 ghost use Rattle.ps_keeper.specs.Cause.{HasCause};
 ghost use Rattle.ps_edge.specs.Files.{HasAsked, dash};
 ghost use Rattle.ps_keeper.specs.Memory.{fresh};
-ghost use Rattle.ps_edge.specs.PathLogs.{after_back, handed, is_out_of, is_unfailed, kept, slot_at, stored};
+ghost use Rattle.ps_edge.specs.PathLogs.{is_out_of, is_unfailed, kept, slot_at, stored};
+ghost use Rattle.ps_edge.specs.MemoryLogs.{handed};
 
 use crate::cabinet::Cabinet;
+use crate::path_log::{PathLog, noted, put_back, put_in, take_out};
 use ps_base::{List, OutOfMemory, Text};
 use ps_keeper::{KeeperError, MemoryKeeper};
 use std::alloc::Global;
 use std::marker::Model;
 
-/// A path of a cabinet, and its keeper unless that is out.
-#[derive(Drop)]
-pub struct PathLog {
-    pub path: Text,
-    pub keeper: Option<MemoryKeeper>,
-}
-
 /// A directory of logs in memory. It fails only if it runs out of memory.
 #[derive(Drop)]
 pub struct MemoryCabinet {
     alloc: Global,
-    slots: Vec<PathLog>,
+    slots: Vec<PathLog<MemoryKeeper>>,
     asked: Option<List<Text>>,
     faults: u64,
 }
 
 impl Model for MemoryCabinet {
     ghost use Rattle.std.specs.Prelude.{◌≡◌, true};
-    ghost use Rattle.ps_edge.specs.PathLogs.{Files, all_unfailed};
+    ghost use Rattle.ps_edge.specs.MemoryLogs.{Files};
+    ghost use Rattle.ps_edge.specs.PathLogs.{all_unfailed};
 
     ghost Value = { Files };
 
     ghost view = { λ c. record { slots = c.slots.items; asked = c.asked; faults = c.faults } };
 
-    ghost invariant = { λ c. all_unfailed c.slots.items ≡ true };
-}
-
-fn place_of(slots: &[PathLog], path: &str) -> Option<usize>
-    ensures { result ≡ position (λ s. bytes_eq s.path path.now) slots.now }
-{
-    slots.iter().position(|slot| slot.path.as_str() == path)
-}
-
-/// Takes the keeper out of its slot. A missing slot is made, so that there is room for its return.
-fn take_out(
-    alloc: Global,
-    slots: &mut Vec<PathLog>,
-    path: &str,
-) -> Result<Option<MemoryKeeper>, OutOfMemory>
-    ensures keeper { IfOk result (λ keeper. keeper ≡ kept path.now slots.old.items) }
-    ensures ok { OnOk result (slots.new.items ≡ stored path.now None slots.old.items) }
-    ensures err { OnErr result (slots.new.items ≡ slots.old.items) }
-    ensures fails { OnErr result (slot_at path.now slots.old.items ≡ None) }
-{
-    match place_of(slots.as_slice(), path) {
-        Some(at) => {
-            let slot = &mut slots[at];
-            Ok(slot.keeper.take())
-        }
-        None => {
-            let path = Text::from_str(alloc, path)?;
-            slots.push(PathLog { path, keeper: None })?;
-            Ok(None)
-        }
-    }
-}
-
-/// Puts a keeper into its slot. A missing slot is made.
-fn put_in(
-    alloc: Global,
-    slots: &mut Vec<PathLog>,
-    path: &str,
-    keeper: MemoryKeeper,
-) -> Result<(), OutOfMemory>
-    ensures ok { OnOk result (slots.new.items ≡ stored path.now (Some keeper) slots.old.items) }
-    ensures err { OnErr result (slots.new.items ≡ slots.old.items) }
-    ensures fails { OnErr result (slot_at path.now slots.old.items ≡ None) }
-{
-    match place_of(slots.as_slice(), path) {
-        Some(at) => {
-            let slot = &mut slots[at];
-            slot.keeper = Some(keeper);
-            Ok(())
-        }
-        None => {
-            let path = Text::from_str(alloc, path)?;
-            slots.push(PathLog {
-                path,
-                keeper: Some(keeper),
-            })?;
-            Ok(())
-        }
-    }
-}
-
-/// Puts a keeper back if one is out for this path.
-fn put_back(slots: &mut Vec<PathLog>, path: &str, keeper: MemoryKeeper)
-    ensures { slots.new.items ≡ after_back path.now keeper slots.old.items }
-{
-    if let Some(at) = place_of(slots.as_slice(), path) {
-        if slots[at].keeper.is_none() {
-            let slot = &mut slots[at];
-            slot.keeper = Some(keeper);
-        }
-    }
-}
-
-/// The list of paths asked for with one more, or `None` if there is no memory for it.
-fn noted(alloc: Global, asked: Option<List<Text>>, path: &str) -> Option<List<Text>>
-    ensures { HasAsked path.now asked result }
-{
-    let mut asked = asked?;
-    let path = Text::from_str(alloc, path).ok()?;
-    asked.push(path).ok()?;
-    Some(asked)
+    ghost invariant = { λ c. all_unfailed (λ m. m.faults) c.slots.items ≡ true };
 }
 
 /// The keeper that is handed out of a slot.
 fn handed(alloc: Global, path: &str, keeper: Option<MemoryKeeper>) -> MemoryKeeper
-    requires { is_unfailed keeper ≡ true }
+    requires { is_unfailed (λ m. m.faults) keeper ≡ true }
     ensures keeper { result ≡ handed (bytes_eq path.now dash) keeper }
     ensures unfailed { result.faults ≡ 0 }
 {
@@ -164,7 +80,8 @@ impl Cabinet for MemoryCabinet {
     type K = MemoryKeeper;
 
     ghost use Rattle.std.specs.Prelude.{◌≡◌, Some, true};
-    ghost use Rattle.ps_edge.specs.PathLogs.{log_under, is_out_of};
+    ghost use Rattle.ps_edge.specs.MemoryLogs.{log_under};
+    ghost use Rattle.ps_edge.specs.PathLogs.{is_out_of};
 
     ghost known = { λ _ _. true };
 

@@ -1,23 +1,23 @@
 use Rattle.std.proofs.Common.{sym, ◌∙◌}
 use Rattle.ps_edge.proofs.PathLogLemmas.{found-in, stored-placed, slot_at-unplaced, stored-unplaced, on-err}
-use Rattle.ps_edge.proofs.memory_cabinet.put_in.Goals as goal
+use Rattle.ps_edge.proofs.path_log.put_in.Goals as goal
 
 pub returns-in-Some-clause-ok : goal.returns-in-Some-clause-ok
-returns-in-Some-clause-ok c =
+returns-in-Some-clause-ok g c =
     let found = found-in c.args.path.now c.as_slice.result.now c.args.slots.now.items _ c.as_slice.ensures.value c.in-Some.ensures in
     stored-placed c.args.path.now _ c.args.slots.now.items c.in-Some.at c.index_mut-slot.result.now found c.index_mut-slot.ensures.value
 
 pub returns-in_ok-push-in-None-clause-ok : goal.returns-in_ok-push-in-None-clause-ok
-returns-in_ok-push-in-None-clause-ok c =
+returns-in_ok-push-in-None-clause-ok g c =
     let found = found-in c.args.path.now c.as_slice.result.now c.args.slots.now.items _ c.as_slice.ensures.value c.in-None.ensures in
     let path = c.in_ok-path-in-None.ensures in
     let made = stored-unplaced c.args.path.now _ c.args.slots.now.items found in
     c.in_ok-push-in-None.ensures.items ∙ rw path (sym made)
 
 pub returns-in_err-path-in-None-clause-fails : goal.returns-in_err-path-in-None-clause-fails
-returns-in_err-path-in-None-clause-fails c =
+returns-in_err-path-in-None-clause-fails g c =
     on-err c.from_residual.result (slot_at-unplaced c.args.path.now c.args.slots.now.items (found-in c.args.path.now c.as_slice.result.now c.args.slots.now.items _ c.as_slice.ensures.value c.in-None.ensures))
 
 pub returns-in_err-push-in-None-clause-fails : goal.returns-in_err-push-in-None-clause-fails
-returns-in_err-push-in-None-clause-fails c =
+returns-in_err-push-in-None-clause-fails g c =
     on-err c.from_residual-in_err-push-in-None.result (slot_at-unplaced c.args.path.now c.args.slots.now.items (found-in c.args.path.now c.as_slice.result.now c.args.slots.now.items _ c.as_slice.ensures.value c.in-None.ensures))
