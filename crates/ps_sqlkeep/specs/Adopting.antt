@@ -25,6 +25,10 @@ pub record HoldsLog (s : State) : Type 0 where
 abbrev pub HasEntries : Schema → Type 0
 HasEntries schema = is_some (table_named schema (codes "entries")) ≡ true
 
+-- the schema is empty, or is the keeper's table alone
+abbrev pub IsUnclaimed : Schema → Type 0
+IsUnclaimed schema = (schema ≡ no_schema) ⊎ (schema ≡ entries_schema)
+
 -- an empty database has the table now, without rows
 abbrev pub IsFresh : State → State → Type 0
 IsFresh old new = old.now.schema ≡ no_schema → (new.now.schema ≡ entries_schema) × (new.now.trees 0 ≡ [])

@@ -43,8 +43,8 @@ pub struct Unadopted<S: Alter> {
     pub error: KeeperError,
 }
 
-/// A statement is refused because there is no memory, or else as a fault.
-fn cause_of(error: Error) -> KeeperError
+/// The cause of a refused statement or a refused opening: there is no memory, or else it is a fault.
+pub fn cause_of(error: Error) -> KeeperError
     ensures { result ≡ cause_of error }
 {
     if error == Error::SqliteFailure(ErrorCode::OutOfMemory) {
@@ -100,6 +100,29 @@ impl<S: Alter> SqlKeeper<S> {
     {
         let SqlKeeper { connection, .. } = self;
         connection
+    }
+
+    /// The same keeper with a count of faults of 0.
+    pub fn reopened(self) -> SqlKeeper<S>
+        ensures { result ≡ record self { faults = 0 } }
+    {
+        let SqlKeeper {
+            connection,
+            holds_log,
+            faults: _,
+        } = self;
+        SqlKeeper {
+            connection,
+            holds_log,
+            faults: 0,
+        }
+    }
+
+    /// How often a statement was refused.
+    pub fn faults(&self) -> u64
+        ensures { result ≡ self.now.faults }
+    {
+        self.faults
     }
 }
 

@@ -10,7 +10,8 @@ mod schema;
 mod statements;
 
 pub use in_order::InOrder;
-pub use keeper::{SqlKeeper, Unadopted};
+pub use keeper::{SqlKeeper, Unadopted, cause_of};
+pub use schema::is_unclaimed;
 
 #[cfg(test)]
 mod tests;

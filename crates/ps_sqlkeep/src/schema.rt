@@ -2,9 +2,12 @@
 
 ghost use Rattle.std.specs.Prelude.{◌↔◌, ◌≡◌, ◌∷◌, [], codes, Some, None, true, false, IsTrue, length};
 ghost use Rattle.sqlite.specs.declared.types.Value.TheVariants.{Null};
-ghost use Rattle.ps_sqlkeep.specs.Entries.{body_column, entries, entries_schema, seq_column};
+ghost use Rattle.ps_sqlkeep.specs.Entries.{body_column, entries, entries_schema, no_schema, seq_column};
+ghost use Rattle.ps_sqlkeep.specs.Adopting.{IsUnclaimed};
+ghost use Rattle.sqlite.specs.Held.{state};
 
 use sqlite::types::Value;
+use sqlite::{Alter, Connection};
 use sqlite_schema::schema::{Column, Kind, Schema, Table};
 use sqlite_value::keys::Collation;
 
@@ -110,4 +113,19 @@ pub(crate) fn is_entries(schema: &Schema) -> bool
         }
         _ => false,
     }
+}
+
+/// There are no tables, indexes or views.
+fn is_blank(schema: &Schema) -> bool
+    ensures { IsTrue result ↔ (schema.now ≡ no_schema) }
+{
+    schema.tables.is_empty() && schema.indexes.is_empty() && schema.views.is_empty()
+}
+
+/// Whether the database belongs to nobody else: its schema is empty, or is the keeper's table alone.
+pub fn is_unclaimed<S: Alter>(connection: &Connection<S>) -> bool
+    ensures { IsTrue result ↔ IsUnclaimed (state S.Store connection.now).now.schema }
+{
+    let schema = connection.schema();
+    is_blank(schema) || is_entries(schema)
 }
