@@ -6,3 +6,5 @@ pub mod PathLogs
 pub mod Links
 pub mod MemoryLinks
 pub mod Pieces
+pub mod Nets
+pub mod MemoryNets

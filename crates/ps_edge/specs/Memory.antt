@@ -26,6 +26,10 @@ pub record Output : Type 0 where
   pub capacity : ℕ
   pub script : Script
 
+-- a script that counts on from the calls of another, without its faults
+abbrev pub resumed : Script → Script
+resumed s = record { failing = s.failing; calls = s.calls; faults = 0 }
+
 -- whether the script names the next call
 abbrev pub fails_next : Script → Bool
 fails_next s = list_any (λ n. n == up s.calls) s.failing

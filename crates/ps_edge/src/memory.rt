@@ -1,7 +1,7 @@
-ghost use Rattle.std.specs.Prelude.{◌≡◌, ◌<◌, ◌≤◌, ◌+◌, ◌⊎◌, ◌↔◌, [], length, Some, IsTrue, IsErr, is_err, IfOk, MatchResult, OnErr};
+ghost use Rattle.std.specs.Prelude.{◌≡◌, ◌<◌, ◌≤◌, ◌+◌, ◌-◌, ◌^◌, min, ◌⊎◌, ◌↔◌, [], length, Some, IsTrue, IsErr, is_err, IfOk, MatchResult, OnErr};
 ghost use Rattle.ps_keeper.specs.Cause.{Rose};
 ghost use Rattle.ps_edge.specs.Edge.{Takes, Adds, HasReadCause, HasWriteCause};
-ghost use Rattle.ps_edge.specs.Memory.{after_call, fails_next, got, unread};
+ghost use Rattle.ps_edge.specs.Memory.{after_call, fails_next, got, resumed, unread};
 
 use crate::edge::{Failed, Got, Sink, Source};
 use ps_base as base;
@@ -53,6 +53,32 @@ impl Script {
         if failed {
             self.faults = self.faults.saturating_add(1);
         }
+    }
+
+    /// The same script, which counts on from here, without faults.
+    pub(crate) fn resumed(&self, alloc: Global) -> Result<Script, base::OutOfMemory>
+        ensures { IfOk result (λ script. script ≡ resumed self.now) }
+    {
+        Ok(Script {
+            failing: base::List::copy_of(alloc, self.failing.as_slice())?,
+            calls: self.calls,
+            faults: 0,
+        })
+    }
+
+    /// How many calls failed.
+    pub(crate) fn faults(&self) -> u64
+        ensures { result ≡ self.now.faults }
+    {
+        self.faults
+    }
+
+    /// Counts faults of others.
+    pub(crate) fn add_faults(&mut self, faults: u64)
+        ensures counted { self.new ≡ record self.old { faults = min (self.old.faults + faults) (2 ^ 64 - 1) } }
+        ensures later { self.old.faults ≤ self.new.faults }
+    {
+        self.faults = self.faults.saturating_add(faults);
     }
 }
 
