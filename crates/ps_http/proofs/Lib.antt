@@ -1,0 +1,16 @@
+pub mod ChunkLineLemmas
+pub mod HeadLemmas
+pub mod ReadingLemmas
+pub mod SectionLemmas
+pub mod StartLemmas
+pub mod StayLemmas
+pub mod SectionStays
+pub mod ChunkLemmas
+pub mod BodyLemmas
+pub mod StartStays
+pub mod ExchangeLemmas
+pub mod OneAnswer
+pub mod DueLemmas
+pub mod RequestStays
+pub mod WithinLemmas
+pub mod CodeLemmas

@@ -1,0 +1,9 @@
+pub mod Answers
+pub mod Chunks
+pub mod Exchanges
+pub mod Heads
+pub mod Laws
+pub mod Limits
+pub mod Reading
+pub mod Requests
+pub mod Sections
