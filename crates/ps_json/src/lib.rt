@@ -16,4 +16,4 @@ pub use batch_line::{BatchLine, read_batch_line};
 pub use call::{CallKind, command};
 pub use named::{PathNames, Query};
 pub use read_error::ReadError;
-pub use reply::{code, no_line, print_reply, refusal_line, value};
+pub use reply::{code, no_line, print_body, print_reply, refusal_body, refusal_line, value};

@@ -1,8 +1,8 @@
-// The line that answers a call.
+// The line that answers a call, and its body alone.
 ghost use Rattle.std.specs.Prelude.{◌≡◌, false, IfOk};
 ghost use Rattle.serde_json.specs.View.{view};
-ghost use Rattle.serde_json.specs.Written.{has_float};
-ghost use Rattle.ps_json.specs.Replies.{body_of, code_of, line_text, reply_data, no_line_text, refusal_text, reply_text};
+ghost use Rattle.serde_json.specs.Written.{compact_text, has_float};
+ghost use Rattle.ps_json.specs.Replies.{body_of, code_of, line_text, refusal_data, reply_data, no_line_text, refusal_text, reply_text};
 
 use crate::print::Shown;
 use crate::print::error::{acked, acked_code, error_value, refused};
@@ -52,6 +52,22 @@ pub fn code(reply: &Reply) -> u16
     }
 }
 
+/// The body of a reply as JSON, without a line feed.
+pub fn print_body(alloc: Global, reply: &Reply) -> Result<Octets, OutOfMemory>
+    ensures { IfOk result (λ text. text ≡ compact_text (body_of reply.now)) }
+{
+    let body = value(alloc, reply)?;
+    json_text(alloc, &body)
+}
+
+/// The body of a refusal as JSON, without a line feed.
+pub fn refusal_body(alloc: Global, refusal: &Refusal) -> Result<Octets, OutOfMemory>
+    ensures { IfOk result (λ text. text ≡ compact_text (refusal_data refusal.now)) }
+{
+    let body = refused(alloc, refusal)?;
+    json_text(alloc, &body)
+}
+
 /// The line, with its line feed, that tells a reply.
 pub fn print_reply(alloc: Global, reply: &Reply) -> Result<Octets, OutOfMemory>
     ensures { IfOk result (λ text. text ≡ reply_text reply.now) }
@@ -82,6 +98,13 @@ fn reply_line(alloc: Global, code: u16, body: Value) -> Result<Octets, OutOfMemo
 {
     let reply = reply_value(alloc, code, body)?;
     json_line(alloc, &reply)
+}
+
+fn json_text(alloc: Global, value: &Value) -> Result<Octets, OutOfMemory>
+    requires { has_float (view value.now) ≡ false }
+    ensures { IfOk result (λ text. text ≡ compact_text (view value.now)) }
+{
+    Ok(Octets::from_vec(value.to_vec(alloc)?))
 }
 
 // A value as one line of JSON, with its line feed.

@@ -8,9 +8,9 @@ use Rattle.ps_base.specs.declared.refusal.Refusal.TheVariants.{InvalidArgument, 
 use Rattle.ps_names.specs.Names.{parts_of}
 use Rattle.ps_json.specs.declared.call.CallKind.{CallKind}
 use Rattle.ps_json.specs.declared.call.CallKind.TheVariants.{CreateTopic, UpdateTopic, GetTopic, DeleteTopic, ListTopics, ListTopicSubscriptions, ListTopicSnapshots, Publish, CreateSubscription, UpdateSubscription, GetSubscription, DeleteSubscription, ListSubscriptions, Pull, Acknowledge, ModifyAckDeadline, Seek, Detach, CreateSnapshot, UpdateSnapshot, GetSnapshot, DeleteSnapshot, ListSnapshots}
-use Rattle.ps_rest.specs.declared.route.Route.{Route}
-use Rattle.ps_rest.specs.declared.route.Subject.{Subject as Given}
-use Rattle.ps_rest.specs.declared.route.Subject.TheVariants as given
+use Rattle.ps_rest.specs.declared.routes.Route.{Route}
+use Rattle.ps_rest.specs.declared.routes.Subject.{Subject as Given}
+use Rattle.ps_rest.specs.declared.routes.Subject.TheVariants as given
 use Rattle.ps_rest.specs.Targets.{decoded}
 
 -- ---- the calls

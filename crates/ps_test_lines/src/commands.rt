@@ -6,7 +6,7 @@ mod deliveries;
 mod lists;
 mod names;
 mod publishes;
-mod texts;
+pub mod texts;
 mod updates;
 
 use ps_base::{OutOfMemory, Text};

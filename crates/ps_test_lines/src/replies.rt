@@ -4,7 +4,7 @@ mod messages;
 mod pages;
 mod resources;
 mod subscriptions;
-mod words;
+pub mod words;
 
 use ps_base::{Octets, OutOfMemory, Refusal};
 use ps_json::print_reply;
