@@ -1,0 +1,4 @@
+pub mod FoundLemmas
+pub mod ServeExamples
+pub mod TakesLemmas
+pub mod WordLemmas
