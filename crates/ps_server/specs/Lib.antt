@@ -1,0 +1,4 @@
+pub mod Asking
+pub mod Service
+pub mod Serving
+pub mod Turns
