@@ -1,6 +1,5 @@
 // The answer to a request.
 ghost use Rattle.ps_book.specs.Books.{MeansSome, GoesOn};
-ghost use Rattle.ps_edge.specs.Edge.{HasWriteCause};
 ghost use Rattle.ps_server.specs.Serving.{GivesCall, GivesRequest, ServesRequest};
 
 use crate::protocol::{Asked, HttpProtocol};

@@ -1,11 +1,6 @@
 // The service over HTTP: its calls are asked by requests.
-ghost use Rattle.std.specs.Prelude.{◌≡◌, true};
-ghost use Rattle.ps_base.specs.Refusals as refusal;
-ghost use Rattle.ps_http.specs.Answers.{has_phrase};
-ghost use Rattle.ps_json.specs.Replies.{code_of};
-
 use crate::protocol::{Asked, HttpProtocol};
-use ps_base::{Octets, OutOfMemory, Refusal};
+use ps_base::{Octets, OutOfMemory};
 use ps_book::{Answer, CallError};
 use ps_core::Core;
 use ps_json::ReadError;
