@@ -1,10 +1,11 @@
-//! The outside world as traits: an input, an output, a connection, a directory of logs, a clock and a net of ports. Each of
-//! them also stands in memory, with a script of its faults.
+//! The outside world as traits: an input, an output, a connection, a directory of logs, a clock, a net of ports and a gate
+//! between workers. Each of them also stands in memory, those that may fail with a script of their faults.
 #![tactic(auto)]
 
 mod cabinet;
 mod clock;
 mod edge;
+mod gate;
 mod link;
 mod memory;
 mod memory_cabinet;
@@ -18,6 +19,7 @@ mod pieces;
 pub use cabinet::Cabinet;
 pub use clock::{Clock, MemoryClock};
 pub use edge::{Failed, Got, Sink, Source, write_all};
+pub use gate::{Gate, OpenGate};
 pub use link::{Link, LinkGot, send_all};
 pub use memory::{MemorySink, MemorySource};
 pub use memory_cabinet::MemoryCabinet;
