@@ -6,7 +6,7 @@ use Rattle.ps_keeper.specs.Cause.{Rose}
 use Rattle.ps_book.specs.declared.error.CallError.{CallError}
 use Rattle.ps_book.specs.declared.error.CallError.TheVariants as call
 use Rattle.ps_run.specs.declared.status.Status.{Status}
-use Rattle.ps_run.specs.declared.status.Status.TheVariants.{Done, Usage, ReadFault, WriteFault, StoreFault, BadRow, OutOfMemory, TooLong}
+use Rattle.ps_run.specs.declared.status.Status.TheVariants.{Done, Usage, ReadFault, WriteFault, StoreFault, BadRow, OutOfMemory, TooLong, AcceptFault}
 use Rattle.ps_run.specs.Batches.{Means, Batched}
 use Rattle.ps_run.specs.Fates.{Fate}
 use Rattle.ps_run.specs.Lines.{lines_of, feeds}
@@ -67,7 +67,7 @@ module _ {W I O : Type 0} (r : Rules W) (was now : Outside I O)
 
   -- a run over a book is one over the log that the book was opened on
   module _ (From : (W × Option W → Type 0) → Type 0) (P : W → Option W → Type 0)
-      (opening : IsTrue k' → (A : W × Option W → Type 0) → From A → FromOpening (Opens r Was Now) A)
+      (opening : IsTrue k' → (A : W × Option W → Type 0) → From A → FromOpening (Opens r.mean Was Now) A)
       (means : IsTrue k' → (w : W) (more : Option W) → P w more → Means r Was Now w more) where
     pub run-batched : (s : Status) → Ran r From P was now s → Batched r Was Now s
     run-batched Done it = λ t. let run = opening t _ it in
@@ -90,6 +90,7 @@ module _ {W I O : Type 0} (r : Rules W) (was now : Outside I O)
           record { opening = run.opening; opens = run.opens; runs = limit-moved r.text r.step P _ (means t) _ _ _ _ count (2 ^ 60) _ _ _ _ _ run.runs },
     )
     run-batched Usage it = it
+    run-batched AcceptFault it = it
     run-batched StoreFault it = absurd it
     run-batched (BadRow seq) it = absurd it
 
@@ -128,10 +129,11 @@ module _ {W I O : Type 0} (r : Rules W) (was now : Outside I O)
           record { opening = run.opening; opens = began t (λ rows. r.mean rows ≡ Some run.opening) run.opens; runs = limit-moved r.text r.step _ _ (means t) _ _ _ _ count (2 ^ 60) _ _ _ _ _ run.runs },
     )
     batched-moved Usage it = it
+    batched-moved AcceptFault it = it
 
 -- a book that couldn't be opened
 module _ {W I O : Type 0} (r : Rules W) (was now : Outside I O) where
-  pub begin-batched : (e : CallError) → LeavesAll was now → (e ≡ call.StoreFault → Rose was.store_faults now.store_faults) → ((seq : ℕ) → e ≡ call.BadRow seq → ShowsBadRow r was now seq) → Batched r was now (begin_status e)
+  pub begin-batched : (e : CallError) → LeavesAll was now → (e ≡ call.StoreFault → Rose was.store_faults now.store_faults) → ((seq : ℕ) → e ≡ call.BadRow seq → ShowsBadRow r.mean r.IsBad was now seq) → Batched r was now (begin_status e)
   begin-batched call.StoreFault same rose bad = (rose refl, same)
   begin-batched (call.BadRow seq) same rose bad = (bad seq refl, same)
   begin-batched call.OutOfMemory same rose bad = inl same

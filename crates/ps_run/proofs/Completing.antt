@@ -4,7 +4,7 @@ use Rattle.std.specs.Prelude.{IfSome, IsSomeAnd, IsTrue, MatchBool, is_some}
 use Rattle.ps_keeper.specs.Log.{Log}
 use Rattle.ps_run.specs.declared.protocol.Report.{Report}
 use Rattle.ps_run.specs.declared.status.Status.{Status}
-use Rattle.ps_run.specs.declared.status.Status.TheVariants.{Done, Usage, ReadFault, WriteFault, StoreFault, BadRow, OutOfMemory, TooLong}
+use Rattle.ps_run.specs.declared.status.Status.TheVariants.{Done, Usage, ReadFault, WriteFault, StoreFault, BadRow, OutOfMemory, TooLong, AcceptFault}
 use Rattle.ps_run.specs.Batches.{Batched}
 use Rattle.ps_run.specs.Completing.{NothingFailed, NoReportFailed}
 use Rattle.ps_run.specs.Outside.{Outside}
@@ -37,6 +37,7 @@ module _ {W I O : Type 0} (r : Rules W) (was now : Outside I O) where
   batch-unopened OutOfMemory is it = absurd (opened 7 (inr (inr (omega arith))) is)
   batch-unopened TooLong is it = absurd (opened 8 (inr (inr (omega arith))) is)
   batch-unopened Usage is it = absurd it
+  batch-unopened AcceptFault is it = absurd it
 
   pub report-unopened : (report : Report) (s : Status) → IsUnopened (code_of s) → Reported r report was now s → SameStreams
   report-unopened report Done is it = absurd (opened 0 (inl refl) is)
@@ -47,6 +48,7 @@ module _ {W I O : Type 0} (r : Rules W) (was now : Outside I O) where
   report-unopened report ReadFault is it = absurd it
   report-unopened report TooLong is it = absurd it
   report-unopened report Usage is it = absurd it
+  report-unopened report AcceptFault is it = absurd it
 
   -- a log that means something has no bad row
   apart : (o : Option W) → IsTrue (is_some o) → o ≡ None → ⊥
@@ -75,6 +77,7 @@ module _ {W I O : Type 0} (r : Rules W) (was now : Outside I O) where
   batch-completes OutOfMemory it none = inr refl
   batch-completes TooLong it none = absurd (too_much was.left none.short it.0)
   batch-completes Usage it none = absurd it
+  batch-completes AcceptFault it none = absurd it
 
   pub report-completes : (report : Report) (s : Status) → Reported r report was now s → NoReportFailed r was now → EndsWell (code_of s)
   report-completes report Done it none = inl refl
@@ -85,3 +88,4 @@ module _ {W I O : Type 0} (r : Rules W) (was now : Outside I O) where
   report-completes report ReadFault it none = absurd it
   report-completes report TooLong it none = absurd it
   report-completes report Usage it none = absurd it
+  report-completes report AcceptFault it none = absurd it

@@ -11,7 +11,7 @@ use Rattle.ps_edge.specs.declared.edge.Sink as sink
 use Rattle.ps_run.specs.declared.protocol.Protocol as protocol
 use Rattle.ps_run.specs.declared.protocol.Report.{Report}
 use Rattle.ps_run.specs.declared.status.Status.{Status}
-use Rattle.ps_run.specs.declared.status.Status.TheVariants.{Done, Usage, ReadFault, WriteFault, StoreFault, BadRow, OutOfMemory, TooLong}
+use Rattle.ps_run.specs.declared.status.Status.TheVariants.{Done, Usage, ReadFault, WriteFault, StoreFault, BadRow, OutOfMemory, TooLong, AcceptFault}
 use Rattle.ps_run.specs.Opening.{BeganWith, LeavesOpened, LeavesLog, LeavesAll, Opens, ShowsBadRow}
 use Rattle.ps_run.specs.Outside.{Outside, around, no_input}
 use Rattle.ps_run.specs.Reports.{Prints, Reported, WritesReport}
@@ -27,7 +27,7 @@ module _ {M C E R O K : Type 0} (m : machine.Ghosts M C E R) (p : protocol.Ghost
   abbrev Now : Outside (Unit {0}) O
   Now = around no_input o k tt output_now it_now
 
-  module _ (w : m.World) (opens : IsTrue (k.known it_now) → Opens (rules_of m p) Was Now w) (log : LeavesOpened Was Now) where
+  module _ (w : m.World) (opens : IsTrue (k.known it_now) → Opens (rules_of m p).mean Was Now w) (log : LeavesOpened Was Now) where
     written-reported : (one : M) → m.world one ≡ w → (s : Status) → WritesReport o (p.report_text report one) output output_now s → Reported (rules_of m p) report Was Now s
     written-reported one is Done written = record { opening = w; opens = opens; text = p.report_text report one; is_report = (one, is, refl); prints = written; input = refl; log = log }
     written-reported one is WriteFault written = (written.0, record { opening = w; opens = opens; text = p.report_text report one; is_report = (one, is, refl); prints = written.1; input = refl; log = log })
@@ -37,6 +37,7 @@ module _ {M C E R O K : Type 0} (m : machine.Ghosts M C E R) (p : protocol.Ghost
     written-reported one is Usage written = written
     written-reported one is ReadFault written = written
     written-reported one is TooLong written = written
+    written-reported one is AcceptFault written = written
 
     pub book-reported : (Q : Type 0) (held : Option M) → IsSome held → IfSome held (λ one. (m.world one ≡ w) × Q) → (s : Status) → IfSome held (λ one. WritesReport o (p.report_text report one) output output_now s) → Reported (rules_of m p) report Was Now s
     unfolding written-reported
@@ -45,7 +46,7 @@ module _ {M C E R O K : Type 0} (m : machine.Ghosts M C E R) (p : protocol.Ghost
 
 module _ {W I O : Type 0} (r : Rules W) (report : Report) (was now : Outside I O) where
   -- a book that couldn't be opened
-  pub begin-reported : (e : CallError) → LeavesAll was now → (e ≡ call.StoreFault → Rose was.store_faults now.store_faults) → ((seq : ℕ) → e ≡ call.BadRow seq → ShowsBadRow r was now seq) → Reported r report was now (begin_status e)
+  pub begin-reported : (e : CallError) → LeavesAll was now → (e ≡ call.StoreFault → Rose was.store_faults now.store_faults) → ((seq : ℕ) → e ≡ call.BadRow seq → ShowsBadRow r.mean r.IsBad was now seq) → Reported r report was now (begin_status e)
   begin-reported call.StoreFault same rose bad = (rose refl, same)
   begin-reported (call.BadRow seq) same rose bad = (bad seq refl, same)
   begin-reported call.OutOfMemory same rose bad = same
@@ -81,6 +82,7 @@ module _ {W I O : Type 0} (r : Rules W) (report : Report) (was now : Outside I O
     reported-moved Usage it = it
     reported-moved ReadFault it = it
     reported-moved TooLong it = it
+    reported-moved AcceptFault it = it
 
 -- a report is the same beside an input, of which it reads nothing, and by rules that print what these print
 module _ {W I O : Type 0} (r : Rules W) (report : Report) (was now : Outside (Unit {0}) O) (IsReport : Report → W → List ℕ → Type 0) (same : (w : W) (text : List ℕ) → r.IsReport report w text → IsReport report w text)
@@ -127,3 +129,4 @@ module _ {W I O : Type 0} (r : Rules W) (report : Report) (was now : Outside (Un
   reported-with Usage it = it
   reported-with ReadFault it = it
   reported-with TooLong it = it
+  reported-with AcceptFault it = it

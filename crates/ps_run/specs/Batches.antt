@@ -10,7 +10,7 @@ use Rattle.ps_edge.specs.declared.cabinet.Cabinet as cabinet
 use Rattle.ps_run.specs.declared.protocol.Protocol as protocol
 use Rattle.ps_run.specs.declared.status.Ended.{Ended}
 use Rattle.ps_run.specs.declared.status.Status.{Status}
-use Rattle.ps_run.specs.declared.status.Status.TheVariants.{Done, Usage, ReadFault, WriteFault, StoreFault, BadRow, OutOfMemory, TooLong}
+use Rattle.ps_run.specs.declared.status.Status.TheVariants.{Done, Usage, ReadFault, WriteFault, StoreFault, BadRow, OutOfMemory, TooLong, AcceptFault}
 use Rattle.ps_run.specs.Answering.{AnswersAll, AnswersWhatEnded, AnswersToLimit, AnswersCut}
 use Rattle.ps_run.specs.Opening.{LeavesAll, FromOpening, Opens, ShowsBadRow, HadTooMuch}
 use Rattle.ps_run.specs.Outside.{Outside, around, outside}
@@ -23,7 +23,7 @@ module _ {W I O : Type 0} (r : Rules W) (was now : Outside I O) where
 
   -- as long as the log is known: from the world that it meant when it was opened, these lines were answered
   abbrev pub Over : (Rules W → (W → Option W → Type 0) → Outside I O → Outside I O → W × Option W → Type 0) → Type 0
-  Over Answers = IsTrue now.known → FromOpening (Opens r was now) (Answers r Means was now)
+  Over Answers = IsTrue now.known → FromOpening (Opens r.mean was now) (Answers r Means was now)
 
   -- by the status: why it ended so, and what was done
   abbrev pub Batched : Status → Type 0
@@ -31,10 +31,11 @@ module _ {W I O : Type 0} (r : Rules W) (was now : Outside I O) where
   Batched ReadFault = Rose was.read_faults now.read_faults × Over AnswersWhatEnded
   Batched WriteFault = Rose was.write_faults now.write_faults × Over AnswersCut
   Batched StoreFault = Rose was.store_faults now.store_faults × LeavesAll was now
-  Batched (BadRow seq) = ShowsBadRow r was now seq × LeavesAll was now
+  Batched (BadRow seq) = ShowsBadRow r.mean r.IsBad was now seq × LeavesAll was now
   Batched OutOfMemory = LeavesAll was now ⊎ Over AnswersCut
-  Batched TooLong = HadTooMuch r was now × Over AnswersToLimit
+  Batched TooLong = HadTooMuch was × Over AnswersToLimit
   Batched Usage = ⊥
+  Batched AcceptFault = ⊥
 
 module _ {M C E R I O : Type 0} (m : machine.Ghosts M C E R) (p : protocol.Ghosts M C E R) (i : source.Ghosts I) (o : sink.Ghosts O) where
   -- the same over a keeper's log, and over the log under a path

@@ -4,7 +4,6 @@ use Rattle.ps_keeper.specs.Log.{Log}
 use Rattle.ps_book.specs.Read.{IsOnlyRead}
 use Rattle.ps_edge.specs.Files.{BeginsWith, SameFile}
 use Rattle.ps_run.specs.Outside.{Outside}
-use Rattle.ps_run.specs.Rules.{Rules}
 
 module _ {I O : Type 0} (was now : Outside I O) where
   -- this holds of the log that the command began with: of the empty one over `-`, else of the file's, if that was known
@@ -36,15 +35,16 @@ pub record FromOpening {W : Type 0} (Opens : W → Type 0) (P : W × Option W �
   pub opens : Opens opening
   pub runs : P (opening, None)
 
-module _ {W I O : Type 0} (r : Rules W) (was now : Outside I O) where
+-- `mean`: the world that a log means. `IsBad`: the number of a log's first bad row.
+module _ {W I O : Type 0} (mean : Log → Option W) where
   -- the log that the command began with means this world
-  abbrev pub Opens : W → Type 0
-  Opens w = BeganWith was now (λ rows. r.mean rows ≡ Some w)
+  abbrev pub Opens : Outside I O → Outside I O → W → Type 0
+  Opens was now w = BeganWith was now (λ rows. mean rows ≡ Some w)
 
   -- as long as the log is known: the row of this number is the first bad one of the log that the command began with, which so means nothing
-  abbrev pub ShowsBadRow : ℕ → Type 0
-  ShowsBadRow seq = IsTrue now.known → BeganWith was now (λ rows. r.IsBad rows seq × (r.mean rows ≡ None))
+  abbrev pub ShowsBadRow : (Log → ℕ → Type 0) → Outside I O → Outside I O → ℕ → Type 0
+  ShowsBadRow IsBad was now seq = IsTrue now.known → BeganWith was now (λ rows. IsBad rows seq × (mean rows ≡ None))
 
-  -- 2 ^ 60 bytes were there to be read
-  abbrev pub HadTooMuch : Type 0
-  HadTooMuch = IfSome was.left (λ bytes. 2 ^ 60 ≤ length bytes)
+-- 2 ^ 60 bytes were there to be read
+abbrev pub HadTooMuch : {I O : Type 0} → Outside I O → Type 0
+HadTooMuch was = IfSome was.left (λ bytes. 2 ^ 60 ≤ length bytes)

@@ -66,3 +66,7 @@ outside i o s file input output it = record {
 -- the input of a command that reads none
 abbrev pub no_input : source.Ghosts (Unit {0})
 no_input = record { left = λ _. None; faults = λ _. 0 }
+
+-- the output of a command that writes none
+abbrev pub no_output : sink.Ghosts (Unit {0})
+no_output = record { holds = λ _. None; faults = λ _. 0 }

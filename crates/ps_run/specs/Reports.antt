@@ -9,7 +9,7 @@ use Rattle.ps_run.specs.declared.protocol.Protocol as protocol
 use Rattle.ps_run.specs.declared.protocol.Report.{Report}
 use Rattle.ps_run.specs.declared.status.Ended.{Ended}
 use Rattle.ps_run.specs.declared.status.Status.{Status}
-use Rattle.ps_run.specs.declared.status.Status.TheVariants.{Done, Usage, ReadFault, WriteFault, StoreFault, BadRow, OutOfMemory, TooLong}
+use Rattle.ps_run.specs.declared.status.Status.TheVariants.{Done, Usage, ReadFault, WriteFault, StoreFault, BadRow, OutOfMemory, TooLong, AcceptFault}
 use Rattle.ps_run.specs.Opening.{LeavesOpened, LeavesAll, Opens, ShowsBadRow}
 use Rattle.ps_run.specs.Outside.{Outside, around, outside, no_input}
 use Rattle.ps_run.specs.Rules.{Rules, rules_of}
@@ -26,7 +26,7 @@ module _ {W I O : Type 0} (r : Rules W) (report : Report) (was now : Outside I O
   pub record Prints (P : List ℕ → Type 0) : Type 0 where
     -- a world, which is the one that the log meant when it was opened, as long as the log is known
     pub opening : W
-    pub opens : IsTrue now.known → Opens r was now opening
+    pub opens : IsTrue now.known → Opens r.mean was now opening
     -- the text of the report on it
     pub text : List ℕ
     pub is_report : r.IsReport report opening text
@@ -40,11 +40,12 @@ module _ {W I O : Type 0} (r : Rules W) (report : Report) (was now : Outside I O
   Reported Done = Prints (AddsAll was.written now.written)
   Reported WriteFault = Rose was.write_faults now.write_faults × Prints (AddsFront was.written now.written)
   Reported StoreFault = Rose was.store_faults now.store_faults × LeavesAll was now
-  Reported (BadRow seq) = ShowsBadRow r was now seq × LeavesAll was now
+  Reported (BadRow seq) = ShowsBadRow r.mean r.IsBad was now seq × LeavesAll was now
   Reported OutOfMemory = LeavesAll was now
   Reported Usage = ⊥
   Reported ReadFault = ⊥
   Reported TooLong = ⊥
+  Reported AcceptFault = ⊥
 
 module _ {O : Type 0} (o : sink.Ghosts O) where
   -- by the status: what was written of a text
@@ -57,6 +58,7 @@ module _ {O : Type 0} (o : sink.Ghosts O) where
   WritesReport text was now Usage = ⊥
   WritesReport text was now ReadFault = ⊥
   WritesReport text was now TooLong = ⊥
+  WritesReport text was now AcceptFault = ⊥
 
 module _ {M C E R O : Type 0} (m : machine.Ghosts M C E R) (p : protocol.Ghosts M C E R) (o : sink.Ghosts O) where
   -- a report on a keeper's log, and on the log under a path

@@ -11,7 +11,7 @@ use Rattle.ps_run.specs.declared.protocol.Protocol as protocol
 use Rattle.ps_run.specs.declared.protocol.Reading.{Reading}
 use Rattle.ps_run.specs.declared.pending.Pending.{Pending}
 use Rattle.ps_run.specs.declared.status.Status.{Status}
-use Rattle.ps_run.specs.declared.status.Status.TheVariants.{Done, Usage, ReadFault, WriteFault, StoreFault, BadRow, OutOfMemory, TooLong}
+use Rattle.ps_run.specs.declared.status.Status.TheVariants.{Done, Usage, ReadFault, WriteFault, StoreFault, BadRow, OutOfMemory, TooLong, AcceptFault}
 use Rattle.ps_run.specs.Answering.{AnswersAll, AnswersWhatEnded, AnswersToLimit, AnswersCut}
 use Rattle.ps_run.specs.Fates.{line_reading, text_of_line, line_state}
 use Rattle.ps_run.specs.Leading.{HasReadingFate, AnswersLine, IsUnended, LeadsOnWith}
@@ -34,10 +34,11 @@ module _ {W I O : Type 0} (r : Rules W) (From : (W × Option W → Type 0) → T
   Ran ReadFault = Rose was.read_faults now.read_faults × FromStart AnswersWhatEnded
   Ran WriteFault = Rose was.write_faults now.write_faults × FromStart AnswersCut
   Ran OutOfMemory = FromStart AnswersCut
-  Ran TooLong = HadTooMuch r was now × FromStart AnswersToLimit
+  Ran TooLong = HadTooMuch was × FromStart AnswersToLimit
   Ran Usage = ⊥
   Ran StoreFault = ⊥
   Ran (BadRow seq) = ⊥
+  Ran AcceptFault = ⊥
 
 module _ {M C E R K : Type 0} (m : machine.Ghosts M C E R) (p : protocol.Ghosts M C E R) (k : keeper.Ghosts K) where
   -- as long as the keeper's log is known: from each state that the book was in

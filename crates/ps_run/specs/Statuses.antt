@@ -6,7 +6,7 @@ use Rattle.ps_edge.specs.declared.edge.Sink as sink
 use Rattle.ps_book.specs.declared.error.CallError.{CallError}
 use Rattle.ps_book.specs.declared.error.CallError.TheVariants as call
 use Rattle.ps_run.specs.declared.status.Status.{Status}
-use Rattle.ps_run.specs.declared.status.Status.TheVariants.{Done, Usage, ReadFault, WriteFault, StoreFault, BadRow, OutOfMemory, TooLong}
+use Rattle.ps_run.specs.declared.status.Status.TheVariants.{Done, Usage, ReadFault, WriteFault, StoreFault, BadRow, OutOfMemory, TooLong, AcceptFault}
 
 -- the exit status of the process
 abbrev pub code_of : Status → ℕ
@@ -18,6 +18,7 @@ code_of StoreFault = 5
 code_of (BadRow seq) = 6
 code_of OutOfMemory = 7
 code_of TooLong = 8
+code_of AcceptFault = 9
 
 abbrev pub usage_text : List ℕ
 usage_text = codes "usage: pubsub batch FILE | check FILE | stat FILE | compact FILE | load N | serve OPTIONS FILE\n"
@@ -44,6 +45,7 @@ status_text StoreFault = codes "store fault\n"
 status_text (BadRow seq) = codes "bad row " ++ (decimal seq ++ codes "\n")
 status_text OutOfMemory = codes "out of memory\n"
 status_text TooLong = codes "input too long\n"
+status_text AcceptFault = codes "accept fault\n"
 
 -- the status of a book that couldn't be opened
 abbrev pub begin_status : CallError → Status

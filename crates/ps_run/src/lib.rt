@@ -13,4 +13,4 @@ pub use batch::{batch_file, batch_keeper};
 pub use lines::run_lines;
 pub use protocol::{Protocol, Reading, Report};
 pub use report::{report_file, report_keeper};
-pub use status::{Ended, Status, conclude};
+pub use status::{Ended, Status, conclude, status_of_begin};

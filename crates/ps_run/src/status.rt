@@ -21,6 +21,8 @@ pub enum Status {
     OutOfMemory,
     /// 2 ^ 60 bytes of input were read.
     TooLong,
+    /// The net failed: a port couldn't be opened, or no connection came through it any more.
+    AcceptFault,
 }
 
 /// A keeper that comes back from a command, and how the command ended.
@@ -44,6 +46,7 @@ impl Status {
             Status::BadRow { .. } => 6,
             Status::OutOfMemory => 7,
             Status::TooLong => 8,
+            Status::AcceptFault => 9,
         }
     }
 }
@@ -75,6 +78,7 @@ fn plain_text(status: Status) -> &'static [u8]
         Status::BadRow { .. } => unreachable!(),
         Status::OutOfMemory => b"out of memory\n",
         Status::TooLong => b"input too long\n",
+        Status::AcceptFault => b"accept fault\n",
     }
 }
 
