@@ -1,30 +1,33 @@
 ghost use Rattle.std.specs.Prelude.{◌≡◌, ◌≤◌, ◌+◌, ◌-◌, ◌^◌, false, None, min, length, All, IfOk, count_by, sum_by};
 
 use crate::door::{TcpDoor, faults_of};
-use ps_base::List;
-use ps_edge::{Net, NetError, Port};
+use ps_base::{List, OutOfMemory};
+use ps_edge::{Net, NetError, Port, Sink, write_all};
 use std::alloc::Global;
 use std::net;
 use std::net::{IpAddr, OpenListener, SocketAddr};
 
-/// The ports of one address of the machine. Which of them were asked for isn't known.
+/// The ports of one address of the machine. Each port that it opens is told on the output, as a line like
+/// `http 127.0.0.1:8085`. Which ports were asked for isn't known.
 #[derive(Drop)]
-pub struct TcpNet<R> {
+pub struct TcpNet<R, O> {
     rt: R,
     alloc: Global,
     address: IpAddr,
+    output: O,
     out: u64,
     faults: u64,
 }
 
-impl<R> TcpNet<R> {
-    pub fn new(rt: R, alloc: Global, address: IpAddr) -> TcpNet<R>
-        ensures { result ≡ record { rt = rt; alloc = alloc; address = address; out = 0; faults = 0 } }
+impl<R, O> TcpNet<R, O> {
+    pub fn new(rt: R, alloc: Global, address: IpAddr, output: O) -> TcpNet<R, O>
+        ensures { result ≡ record { rt = rt; alloc = alloc; address = address; output = output; out = 0; faults = 0 } }
     {
         TcpNet {
             rt,
             alloc,
             address,
+            output,
             out: 0,
             faults: 0,
         }
@@ -36,6 +39,15 @@ fn number_of(port: Port) -> u16 {
     match port {
         Port::Http(number) | Port::Stream(number) => number,
     }
+}
+
+/// The line that tells that a port of an address is open.
+fn line_of(alloc: Global, port: Port, address: SocketAddr) -> Result<String, OutOfMemory> {
+    let line = match port {
+        Port::Http(_) => format!(in alloc; "http {address}\n"),
+        Port::Stream(_) => format!(in alloc; "stream {address}\n"),
+    };
+    line.map_err(|_| OutOfMemory)
 }
 
 /// Gives so many doors of a listener. The first of them is the listener, and each other one a handle of its socket.
@@ -77,7 +89,7 @@ fn open<R: net::Net>(
     }
 }
 
-impl<R: net::Net> Net for TcpNet<R> {
+impl<R: net::Net, O: Sink> Net for TcpNet<R, O> {
     type D = TcpDoor<R::Listener>;
 
     ghost asked = { λ _. None };
@@ -88,8 +100,11 @@ impl<R: net::Net> Net for TcpNet<R> {
 
     fn doors(&mut self, port: Port, number: u32) -> Result<List<TcpDoor<R::Listener>>, NetError> {
         let address = SocketAddr::new(self.address, number_of(port));
+        let line = line_of(self.alloc, port, address)?;
         match open(&self.rt, self.alloc, address, number) {
             Ok(doors) => {
+                // If the port can't be told, it is open all the same.
+                let _ = write_all(&mut self.output, line.as_bytes());
                 self.out = self.out.saturating_add(u64::from(number));
                 Ok(doors)
             }

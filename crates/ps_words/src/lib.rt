@@ -4,4 +4,4 @@
 mod command;
 mod serve;
 
-pub use serve::{ServeWords, WordsError, serve_words};
+pub use serve::{ServeWords, WordsError, begins_with_serve, serve_words};

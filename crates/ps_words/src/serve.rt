@@ -25,7 +25,8 @@ pub enum WordsError {
     OutOfMemory,
 }
 
-fn begins_with_serve(words: &[String]) -> bool
+/// Whether the first word is `serve`.
+pub fn begins_with_serve(words: &[String]) -> bool
     ensures { result ≡ begins_with_serve (texts words.now) }
 {
     match words {
