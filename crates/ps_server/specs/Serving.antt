@@ -1,6 +1,6 @@
 -- What is done on a connection: which requests were read and answered, and how it ended.
 use Rattle.std.specs.List.{AllByRecursion}
-use Rattle.std.specs.Prelude.{◌≡◌, ◌⊎◌, ◌<◌, ℕ, List, [], ◌∷◌, ◌++◌, length, take, map, Bool, true, false, Option, Some, None, IsTrue, MatchOption, IfOk, Result, Ok, Err}
+use Rattle.std.specs.Prelude.{◌≡◌, ◌⊎◌, ◌<◌, ◌≤◌, ℕ, List, [], ◌∷◌, ◌++◌, length, take, map, Bool, true, false, Option, Some, None, IsTrue, MatchOption, IfOk, Result, Ok, Err, ⊤}
 use Rattle.ps_keeper.specs.Cause.{Rose}
 use Rattle.ps_keeper.specs.declared.keeper.Keeper as keeper
 use Rattle.ps_book.specs.declared.machine.Machine as machine
@@ -9,6 +9,7 @@ use Rattle.ps_book.specs.Journaled.{Journaled}
 use Rattle.ps_edge.specs.declared.clock.Clock as clock
 use Rattle.ps_edge.specs.declared.edge.Failed.{Failed}
 use Rattle.ps_edge.specs.declared.link.Link as link
+use Rattle.ps_http.specs.Answers.{has_phrase}
 use Rattle.ps_http.specs.Exchanges.{Passes, Rest, Sends, HasEnded, begun, continue_text}
 use Rattle.ps_http.specs.Requests.{Framed, Frames, IsDue}
 use Rattle.ps_run.specs.Fates.{Fate, HasFateCauses, call_world, call_more}
@@ -154,6 +155,23 @@ module _ {M C E R K : Type 0} (m : machine.Ghosts M C E R) (p : protocol.Ghosts 
 
       abbrev pub Serves : T → L → L → Journaled M K → Journaled M K → ConnEnd → Type 0
       Serves clock was now old new end = From old new (λ s. Ends clock was now old new s end)
+
+module _ {L : Type 0} (l : link.Ghosts L) where
+  -- by how a connection ended: what caused it
+  abbrev pub CausesEnd : L → L → ConnEnd → Type 0
+  CausesEnd was now Ended = HasEnded l now
+  CausesEnd was now (Torn n) = HasEnded l now × (0 < n)
+  CausesEnd was now ReadFault = Rose (l.faults was) (l.faults now)
+  CausesEnd was now WriteFault = Rose (l.faults was) (l.faults now)
+  CausesEnd was now (Refused code) = has_phrase code ≡ true
+  CausesEnd was now Closed = ⊤
+  CausesEnd was now OutOfMemory = ⊤
+
+  -- a connection ended, and why, whether the keeper's log is known or not
+  pub record HasEndCause (was now : L) (end : ConnEnd) : Type 0 where
+    -- the count of faults of the link doesn't fall
+    pub later : l.faults was ≤ l.faults now
+    pub caused : CausesEnd was now end
 
 module _ {M C E R L : Type 0} (p : protocol.Ghosts M C E R) (l : link.Ghosts L) where
   -- by whether the answer to bytes that are no request was written

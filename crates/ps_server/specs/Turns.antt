@@ -1,10 +1,11 @@
 -- What becomes of the requests of a connection. The book may be in doubt: its last entry may be in the log or not.
-use Rattle.std.specs.Prelude.{◌≡◌, ℕ, List, [], ◌∷◌, ◌++◌, drop, Bool, Option, if◌then◌else◌, Result, Ok, Err}
+use Rattle.std.specs.List.{AllByRecursion}
+use Rattle.std.specs.Prelude.{◌≡◌, ℕ, List, [], ◌∷◌, ◌++◌, drop, map, Bool, Option, if◌then◌else◌, Result, Ok, Err}
 use Rattle.ps_book.specs.declared.error.CallError.TheVariants.{OutOfMemory}
 use Rattle.ps_book.specs.declared.machine.Machine as machine
 use Rattle.ps_http.specs.Exchanges.{continue_text}
 use Rattle.ps_http.specs.Requests.{Framed, Frames, IsDue}
-use Rattle.ps_run.specs.Fates.{Fate, Answered, Unprinted, Unjudged, InDoubt, from_world, call_world, call_more}
+use Rattle.ps_run.specs.Fates.{Fate, Answered, Unprinted, Unjudged, InDoubt, HasFateCauses, from_world, call_world, call_more}
 use Rattle.ps_server.specs.declared.answer.Request.{Request}
 use Rattle.ps_server.specs.declared.protocol.HttpProtocol as protocol
 use Rattle.ps_server.specs.Asking.{text_with}
@@ -61,6 +62,15 @@ module _ {M C E R : Type 0} (m : machine.Ghosts M C E R) (p : protocol.Ghosts M 
   abbrev pub state_after : m.World × Option m.World → List Turn → m.World × Option m.World
   state_after s [] = s
   state_after s (t ∷ turns) = state_after (step s t) turns
+
+  -- requests led from this state to one of which `Means` holds; `gives`: the moments that the clock may give
+  pub record Led (gives : ℕ → Type 0) (Means : m.World → Option m.World → Type 0) (faults_before faults_now : ℕ) (s : m.World × Option m.World) : Type 0 where
+    -- the requests, one after another, of whichever connections
+    pub turns : List Turn
+    pub moments : AllByRecursion (λ (t : Turn). gives t.at) turns
+    pub holds : Means (state_after s turns).0 (state_after s turns).1
+    -- the store failed at least as often as these calls met a fault of it, and none met a bad row
+    pub causes : HasFateCauses faults_before faults_now (map (λ (t : Turn). t.fate) turns)
 
 -- these bytes begin with a request, which so many of them are, and the answer 100 is due to it or not
 pub record IsRequest (bytes : List ℕ) (r : Request) (due : Bool) (len : ℕ) : Type 0 where

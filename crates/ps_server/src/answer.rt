@@ -1,5 +1,6 @@
 // The answer to a request.
 ghost use Rattle.ps_book.specs.Books.{MeansSome, GoesOn};
+ghost use Rattle.ps_edge.specs.Edge.{HasWriteCause};
 ghost use Rattle.ps_server.specs.Serving.{GivesCall, GivesRequest, ServesRequest};
 
 use crate::protocol::{Asked, HttpProtocol};
@@ -72,6 +73,7 @@ pub fn serve_request<M: HttpProtocol, K: Keeper, L: Link>(
 ) -> Result<(), Failed>
     requires { MeansSome M.Machine K.Keeper book.old }
     ensures served { ServesRequest M.Machine M.HttpProtocol.own K.Keeper L.Link book.old book.new at request.now link.old link.new result }
+    ensures cause { HasWriteCause (L.faults link.old) (L.faults link.new) result }
     ensures goes { GoesOn M.Machine K.Keeper book.old book.new }
 {
     match answer_request(alloc, book, at, request) {

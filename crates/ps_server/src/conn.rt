@@ -1,8 +1,8 @@
 // One connection: its requests are answered one after another.
-ghost use Rattle.std.specs.Prelude.{◌≡◌, true};
+ghost use Rattle.std.specs.Prelude.{◌≡◌, ◌≤◌, true, MatchOption};
 ghost use Rattle.ps_book.specs.Books.{MeansSome, GoesOn};
 ghost use Rattle.ps_http.specs.Answers.{has_phrase};
-ghost use Rattle.ps_server.specs.Serving.{GoesOnFrom, Refuses, Serves, end_after};
+ghost use Rattle.ps_server.specs.Serving.{GoesOnFrom, HasEndCause, Refuses, Serves, end_after};
 
 use crate::answer::{Request, serve_request};
 use crate::protocol::HttpProtocol;
@@ -37,7 +37,8 @@ const PAUSE: u64 = 1;
 /// Answers bytes that are no request, by the code of their refusal.
 fn refuse<M: HttpProtocol, L: Link>(alloc: Global, link: &mut L, code: u16) -> ConnEnd
     requires { has_phrase code ≡ true }
-    ensures { Refuses M.HttpProtocol.own L.Link code link.old link.new result }
+    ensures refuses { Refuses M.HttpProtocol.own L.Link code link.old link.new result }
+    ensures cause { HasEndCause L.Link link.old link.new result }
 {
     match answer(alloc, code, M::refusal_body(code), true) {
         Ok(text) => match send_all(link, text.as_slice()) {
@@ -69,6 +70,7 @@ fn serve_next<M: HttpProtocol, K: Keeper, L: Link, C: Clock>(
 ) -> Option<ConnEnd>
     requires { MeansSome M.Machine K.Keeper book.old }
     ensures steps { GoesOnFrom M.Machine M.HttpProtocol.own K.Keeper L.Link C.Clock clock.now link.old link.new book.old book.new kept.old kept.new result }
+    ensures cause { MatchOption result (L.faults link.old ≤ L.faults link.new) (HasEndCause L.Link link.old link.new) }
     ensures goes { GoesOn M.Machine K.Keeper book.old book.new }
 {
     match next(alloc, link, kept) {
@@ -110,6 +112,7 @@ pub fn serve_conn<M: HttpProtocol, K: Keeper, L: Link, C: Clock, R: Wait>(
 ) -> ConnEnd
     requires { MeansSome M.Machine K.Keeper book.old }
     ensures served { Serves M.Machine M.HttpProtocol.own K.Keeper L.Link C.Clock clock.now link.old link.new book.old book.new result }
+    ensures cause { HasEndCause L.Link link.old link.new result }
     ensures goes { GoesOn M.Machine K.Keeper book.old book.new }
 {
     let mut kept = Kept::new(alloc);

@@ -3,8 +3,8 @@ use Rattle.ps_http.specs.Answers.{answer_text}
 use Rattle.ps_server.proofs.Calls.{sent, text_is}
 use Rattle.ps_server.proofs.conn.refuse.Goals as goal
 
-pub returns-in-Ok-send_all : goal.returns-in-Ok-send_all
-returns-in-Ok-send_all g c =
+pub returns-in-Ok-send_all-clause-refuses : goal.returns-in-Ok-send_all-clause-refuses
+returns-in-Ok-send_all-clause-refuses g c =
     let send = c.send_all.ensures in
     inr (
       c.send_all.result,
@@ -13,8 +13,8 @@ returns-in-Ok-send_all g c =
       rw (c.in-Ok-send_all.is) refl,
     )
 
-pub returns-in-Ok : goal.returns-in-Ok
-returns-in-Ok g c =
+pub returns-in-Ok-clause-refuses : goal.returns-in-Ok-clause-refuses
+returns-in-Ok-clause-refuses g c =
     let send = c.send_all.ensures in
     inr (
       c.send_all.result,

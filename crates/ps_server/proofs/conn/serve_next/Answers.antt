@@ -28,7 +28,7 @@ returns-in-WriteFault-clause-steps g c known was old s goes =
 
 pub returns-in-Refused-clause-steps : goal.returns-in-Refused-clause-steps
 returns-in-Refused-clause-steps g c known was old s goes =
-    steps.refused g.M.Machine g.M.HttpProtocol g.K.Keeper g.L.Link g.C.Clock c.args.clock.now was old s c.args.link.now c.next.new.link c.args.book.now c.args.kept.now c.next.new.kept goes c.in-Refused.code c.refuse.new.link c.in-Refused.ensures _ c.refuse.ensures
+    steps.refused g.M.Machine g.M.HttpProtocol g.K.Keeper g.L.Link g.C.Clock c.args.clock.now was old s c.args.link.now c.next.new.link c.args.book.now c.args.kept.now c.next.new.kept goes c.in-Refused.code c.refuse.new.link c.in-Refused.ensures _ c.refuse.ensures.refuses
 
 pub returns-in-OutOfMemory-clause-steps : goal.returns-in-OutOfMemory-clause-steps
 returns-in-OutOfMemory-clause-steps g c known was old s goes =
