@@ -1,4 +1,5 @@
 pub mod FoundLemmas
+pub mod PlainLemmas
 pub mod ServeExamples
 pub mod TakesLemmas
 pub mod WordLemmas

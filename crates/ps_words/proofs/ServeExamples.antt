@@ -1,7 +1,8 @@
 -- Words of `serve`, worked out.
-use Rattle.std.proofs.Common.{◌≡◌, true, false, [], ◌∷◌, codes, refl, Some}
+use Rattle.std.proofs.Common.{◌≡◌, ◌∷◌, true, false, [], codes, refl, Some, inl, inr, arith, rules}
+use Rattle.std.specs.Fmt.{digits}
 use Rattle.clap.proofs.OnLiterals.{clap_on_literals}
-use Rattle.ps_words.specs.Serve.{accepts_words, file_in, http_in, is_faultless, serve_app}
+use Rattle.ps_words.specs.Serve.{IsPlain, accepts_words, file_in, http_in, is_faultless, serve_app, tick_first, tick_last, without_tick}
 
 -- words that are taken
 pub takes_port : accepts_words (codes "serve" ∷ codes "--http" ∷ codes "8085" ∷ codes "f" ∷ []) ≡ true
@@ -70,3 +71,16 @@ takes_empty_file = refl
 pub gives_empty_file : file_in (codes "serve" ∷ codes "--http" ∷ codes "8085" ∷ [] ∷ []) ≡ Some []
 unfolding file_in serve_app clap_on_literals
 gives_empty_file = refl
+
+-- plain words
+pub is_plain : IsPlain (codes "serve" ∷ codes "--http" ∷ codes "8085" ∷ codes "f" ∷ []) 8085 (codes "f")
+unfolding digits
+is_plain = without_tick 8085 (codes "f") (search rules) (inr (omega arith, λ e. omega (arith, e)))
+
+pub is_plain_with_tick : IsPlain (codes "serve" ∷ codes "--http" ∷ codes "1" ∷ codes "--tick" ∷ codes "60000" ∷ codes "-" ∷ []) 1 (codes "-")
+unfolding digits
+is_plain_with_tick = tick_last 1 60000 (codes "-") (search rules) (search rules) (inl refl)
+
+pub is_plain_with_tick_first : IsPlain (codes "serve" ∷ codes "--tick" ∷ codes "10" ∷ codes "--http" ∷ codes "65535" ∷ codes "a-b" ∷ []) 65535 (codes "a-b")
+unfolding digits
+is_plain_with_tick_first = tick_first 65535 10 (codes "a-b") (search rules) (search rules) (inr (omega arith, λ e. omega (arith, e)))

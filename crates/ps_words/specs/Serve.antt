@@ -1,5 +1,6 @@
 -- The words of `serve`: what the parser takes, and what they ask for.
-use Rattle.std.specs.Prelude.{◌≡◌, ◌&&◌, codes, Some, pos, true, Bool, ℕ, List, [], ◌∷◌, false, map, string_bytes, String, Option, option_map}
+use Rattle.std.specs.Prelude.{◌≡◌, ◌≢◌, ◌⊎◌, ◌<◌, ◌≤◌, ◌&&◌, codes, length, slice_index, Some, pos, true, Bool, ℕ, List, [], ◌∷◌, false, map, string_bytes, String, Option, option_map, Result, MatchResult}
+use Rattle.std.specs.Fmt.{decimal}
 use Rattle.std.specs.Str.{bytes_eq}
 use Rattle.std.specs.Str.Parse.{digits_value, without_leading_plus}
 use Rattle.std.specs.declared.alloc.Global.{Global}
@@ -8,6 +9,9 @@ use Rattle.clap.specs.Walk.{is_empty}
 use Rattle.clap.specs.declared.builder.action.ArgAction.TheVariants.{Set}
 use Rattle.clap.specs.declared.parser.matches.ArgMatches.{ArgMatches}
 use Rattle.clap.specs.declared.builder.value_parser.ValueParser.TheVariants as vp
+use Rattle.ps_words.specs.declared.serve.ServeWords.{ServeWords}
+use Rattle.ps_words.specs.declared.serve.WordsError.{WordsError}
+use Rattle.ps_words.specs.declared.serve.WordsError.TheVariants.{OutOfMemory}
 
 -- `--http PORT`, from 1 to 65535
 abbrev pub http_rule : Rule
@@ -61,3 +65,27 @@ http_in words = option_map number_of (one_of (codes "http") (matches_of serve_ap
 -- a port was found, in its range
 abbrev pub HasPort : ArgMatches → Type 0
 HasPort m = (text : Text) × (one_text (found_of m) (codes "http") ≡ Some (without_minus text)) × IsSignedIn (pos 1) (pos 65535) text
+
+-- a port, and milliseconds of a tick, as the options want them
+abbrev pub IsPort : ℕ → Type 0
+IsPort port = (1 ≤ port) × (port ≤ 65535)
+
+abbrev pub IsTick : ℕ → Type 0
+IsTick tick = (10 ≤ tick) × (tick ≤ 60000)
+
+-- `-`, or a text that isn't empty and doesn't begin with a hyphen
+abbrev pub IsFileName : Text → Type 0
+IsFileName file = (file ≡ codes "-") ⊎ ((0 < length file) × (slice_index file 0 ≢ 45))
+
+-- plain words of `serve` with this port and this file: `--http` and at most one `--tick`, in any order, and then the file
+pub data IsPlain : List Text → ℕ → Text → Type 0 where
+  without_tick : (port : ℕ) (file : Text) → IsPort port → IsFileName file
+      → IsPlain (codes "serve" ∷ codes "--http" ∷ decimal port ∷ file ∷ []) port file
+  tick_last : (port tick : ℕ) (file : Text) → IsPort port → IsTick tick → IsFileName file
+      → IsPlain (codes "serve" ∷ codes "--http" ∷ decimal port ∷ codes "--tick" ∷ decimal tick ∷ file ∷ []) port file
+  tick_first : (port tick : ℕ) (file : Text) → IsPort port → IsTick tick → IsFileName file
+      → IsPlain (codes "serve" ∷ codes "--tick" ∷ decimal tick ∷ codes "--http" ∷ decimal port ∷ file ∷ []) port file
+
+-- the words were read as this port and this file, unless there was no memory
+abbrev pub Gives : ℕ → Text → Result ServeWords WordsError → Type 0
+Gives port file result = MatchResult result (λ it. (it.http ≡ port) × (string_bytes it.file ≡ file)) (λ error. error ≡ OutOfMemory)

@@ -1,6 +1,6 @@
-ghost use Rattle.std.specs.Prelude.{◌≡◌, ◌⊎◌, ◌<◌, [], Some, codes, true, false, is_some, length, IfOk, Err, string_bytes};
-ghost use Rattle.clap.specs.Words.{first_value, found_of, matches_of, rows_of};
-ghost use Rattle.ps_words.specs.Serve.{HasPort, accepts_words, begins_with_serve, file_in, http_in, is_faultless, serve_app, texts};
+ghost use Rattle.std.specs.Prelude.{◌≡◌, ◌⊎◌, ◌<◌, ℕ, [], Some, codes, true, false, is_some, length, IfOk, Err, string_bytes};
+ghost use Rattle.clap.specs.Words.{Text, first_value, found_of, matches_of, rows_of};
+ghost use Rattle.ps_words.specs.Serve.{Gives, HasPort, IsPlain, accepts_words, begins_with_serve, file_in, http_in, is_faultless, serve_app, texts};
 
 use crate::command::serve_command;
 use clap::ArgMatches;
@@ -55,7 +55,8 @@ fn parse<'a>(alloc: Global, words: &'a [String]) -> Result<ArgMatches<'a>, Words
     }
 }
 
-/// Reads the words after the program's name. `Usage` says that the parser refuses them, or that the file has no name.
+/// Reads the words after the program's name. `Usage` says that the parser refuses them, or that the file has no name, which
+/// is never so of plain words.
 pub fn serve_words(alloc: Global, words: &[String]) -> Result<ServeWords, WordsError>
     ensures usage { result ≡ Err WordsError.Usage → (accepts_words (texts words.now) ≡ false) ⊎ (file_in (texts words.now) ≡ Some []) }
     ensures accepted { IfOk result (λ _. accepts_words (texts words.now) ≡ true) }
@@ -63,6 +64,7 @@ pub fn serve_words(alloc: Global, words: &[String]) -> Result<ServeWords, WordsE
     ensures port { IfOk result (λ it. 0 < it.http) }
     ensures file { IfOk result (λ it. file_in (texts words.now) ≡ Some (string_bytes it.file)) }
     ensures named { IfOk result (λ it. 0 < length (string_bytes it.file)) }
+    ensures plain { (port : ℕ) (file : Text) → IsPlain (texts words.now) port file → Gives port file result }
 {
     if !begins_with_serve(words) {
         return Err(WordsError::Usage);

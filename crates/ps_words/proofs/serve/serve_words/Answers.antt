@@ -1,7 +1,8 @@
-use Rattle.std.proofs.Common.{◌∙◌, inl, inr, sym, ap, rules, Some, List, ℕ, []}
+use Rattle.std.proofs.Common.{◌∙◌, inl, inr, sym, ap, rules, Some, List, ℕ, [], refl}
 use Rattle.clap.specs.Words.{found_of}
 use Rattle.clap.proofs.SimpleLemmas.{is_nil}
 use Rattle.ps_words.specs.Serve.{texts}
+use Rattle.ps_words.proofs.PlainLemmas.{not_refused, same_file, same_port, without_usage}
 use Rattle.ps_words.proofs.WordLemmas.{accepted, file_is, http_is, not_taken, other_verb}
 use Rattle.ps_words.proofs.serve.serve_words.Goals as goal
 
@@ -24,3 +25,16 @@ returns-clause-file c = file_is (found_of c.in_ok-matches.matches) (texts c.args
 
 pub returns-clause-accepted : goal.returns-clause-accepted
 returns-clause-accepted c = accepted (texts c.args.words.now) (sym c.if-not-begins_with_serve.ensures) c.in_ok-matches.ensures.accepted
+
+pub returns-in_err-matches-clause-plain : goal.returns-in_err-matches-clause-plain
+returns-in_err-matches-clause-plain c = λ port file plain. without_usage port file _ (search rules)
+    (λ is. not_refused (texts c.args.words.now) port file plain (returns-in_err-matches-clause-usage c is))
+
+pub returns-then-is_empty-clause-plain : goal.returns-then-is_empty-clause-plain
+returns-then-is_empty-clause-plain c = λ port file plain. absurd (not_refused (texts c.args.words.now) port file plain (returns-then-is_empty-clause-usage c refl))
+
+pub returns-clause-plain : goal.returns-clause-plain
+returns-clause-plain c = λ port file plain. (
+  same_port (texts c.args.words.now) port file plain _ (returns-clause-http c),
+  same_file (texts c.args.words.now) port file plain _ (returns-clause-file c),
+)
