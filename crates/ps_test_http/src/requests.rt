@@ -1,4 +1,4 @@
-use ps_base::{List, Octets};
+use crate::links::{bytes_of, cut_link, link_of};
 use ps_edge::MemoryLink;
 use ps_http::{Exchange, Kept, next};
 use ps_transcript::cases;
@@ -78,8 +78,7 @@ const REQUESTS: &str = "
 < torn 2
 ";
 
-/// What a client sends, read by read, with `^` between two of them. A read of `~` finds nothing so far, and one of `!`
-/// fails.
+/// What a client sends, read by read, and the faults of its connection.
 const READS: &str = "
 # The answer 100 is written once, whenever the body comes.
 > PUT /a HTTP/1.1|Host: x|Expect: 100-continue|Content-Length: 2||^~^~^{^~^}
@@ -96,30 +95,11 @@ const READS: &str = "
 # A body that is too long isn't read.
 > PUT /a HTTP/1.1|Host: x|Content-Length: 16777217||^!
 < refused 413
+
+# The write of the answer 100 may fail.
+> #1^PUT /a HTTP/1.1|Host: x|Expect: 100-continue|Content-Length: 2||{}
+< write fault
 ";
-
-/// The bytes of a line, where `|` is CRLF.
-fn sent(alloc: Global, line: &str) -> Result<Vec<u8>, AllocError> {
-    let mut bytes = Vec::new(alloc);
-    for byte in line.as_bytes() {
-        if *byte == b'|' {
-            bytes.extend_from_slice(b"\r\n")?;
-        } else {
-            bytes.push(*byte)?;
-        }
-    }
-    Ok(bytes)
-}
-
-/// A link that gives these bytes in two pieces, with a read between them that finds nothing so far.
-fn link(alloc: Global, bytes: &[u8], cut: usize) -> Result<MemoryLink, Fail> {
-    let mut pieces = List::new(alloc);
-    pieces.push(Octets::from_slice(alloc, &bytes[..cut.min(bytes.len())])?)?;
-    pieces.push(Octets::from_slice(alloc, &bytes[cut.min(bytes.len())..])?)?;
-    let mut waiting = List::new(alloc);
-    waiting.push(2)?;
-    Ok(MemoryLink::new(alloc, pieces, List::new(alloc), waiting, List::new(alloc)))
-}
 
 /// What one exchange gives, and whether it was the last.
 fn shown(alloc: Global, exchange: Exchange) -> Result<(String, bool), Fail> {
@@ -149,23 +129,6 @@ fn shown(alloc: Global, exchange: Exchange) -> Result<(String, bool), Fail> {
     }
 }
 
-/// A link whose reads are written in a line.
-fn link_of(alloc: Global, line: &str) -> Result<MemoryLink, Fail> {
-    let mut pieces = List::new(alloc);
-    let mut failing = List::new(alloc);
-    let mut waiting = List::new(alloc);
-    let mut number: u64 = 0;
-    for read in line.split('^') {
-        number = number.saturating_add(1);
-        match read {
-            "~" => waiting.push(number)?,
-            "!" => failing.push(number)?,
-            piece => pieces.push(Octets::from_vec(sent(alloc, piece)?))?,
-        }
-    }
-    Ok(MemoryLink::new(alloc, pieces, failing, waiting, List::new(alloc)))
-}
-
 /// All exchanges over a link, to the last one.
 fn told(alloc: Global, link: &mut MemoryLink) -> Result<String, Fail> {
     let mut kept = Kept::new(alloc);
@@ -188,7 +151,7 @@ fn told(alloc: Global, link: &mut MemoryLink) -> Result<String, Fail> {
 
 /// Whether these bytes are read so, in two pieces that are cut at a place.
 fn expect_cut(alloc: Global, bytes: &[u8], cut: usize, answer: &str) -> Result<(), Fail> {
-    let mut link = link(alloc, bytes, cut)?;
+    let mut link = cut_link(alloc, bytes, cut)?;
     let text = told(alloc, &mut link)?;
     if text.as_str() == answer {
         return Ok(());
@@ -206,7 +169,7 @@ fn expect_reads(alloc: Global, line: &str, answer: &str) -> Result<(), Fail> {
 }
 
 fn expect_cuts(alloc: Global, line: &str, answer: &str) -> Result<(), Fail> {
-    let bytes = sent(alloc, line)?;
+    let bytes = bytes_of(alloc, line)?;
     for cut in 0..bytes.len() {
         expect_cut(alloc, bytes.as_slice(), cut, answer)?;
     }
@@ -229,22 +192,6 @@ fn reads_may_wait_and_fail(rt: HostRuntime) -> Result<(), Fail> {
         expect_reads(alloc, case.asked, case.answer)?;
     }
     Ok(())
-}
-
-#[test]
-fn the_write_of_the_answer_100_may_fail(rt: HostRuntime) -> Result<(), Fail> {
-    let alloc = rt.alloc();
-    let line = "PUT /a HTTP/1.1|Host: x|Expect: 100-continue|Content-Length: 2||{}";
-    let mut pieces = List::new(alloc);
-    pieces.push(Octets::from_vec(sent(alloc, line)?))?;
-    let mut unwritten = List::new(alloc);
-    unwritten.push(1)?;
-    let mut link = MemoryLink::new(alloc, pieces, List::new(alloc), List::new(alloc), unwritten);
-    let text = told(alloc, &mut link)?;
-    if text.as_str() == "write fault" {
-        return Ok(());
-    }
-    Err(Fail::new(format_args!("{text}")))
 }
 
 /// These bytes, so many equal lines, and an empty line.
