@@ -1,15 +1,11 @@
 //! A message server with the behaviour of Google Cloud Pub/Sub.
 #![tactic(auto)]
 
-ghost use Rattle.std.specs.Prelude.{◌≡◌, ◌↔◌, None, IfOk, OnErr};
-ghost use Rattle.ps_run.specs.Statuses.{status_text, Writes, EndsWith, IsUnopened};
-ghost use Rattle.ps_run.specs.Files.{AsksOnlyFor};
-ghost use Rattle.pubsub.specs.Words.{OnFile, texts, request_in};
-ghost use Rattle.pubsub.specs.Commands.{Batches, Reports};
-
 mod commands;
+mod host;
 mod line;
 mod numbers;
+mod serve;
 mod service;
 mod streams;
 #[cfg(test)]
@@ -17,13 +13,17 @@ mod tests;
 mod words;
 
 use commands::run_offline;
-use ps_edge::{Cabinet, Sink, Source};
+use host::{HostError, host_address};
+use ps_edge::{Cabinet, Sink, write_all};
 use ps_files::FileCabinet;
 use ps_run::{Status, conclude};
-use std::alloc::Global;
-use std::io::ErrorKind;
+use ps_sockets::{SystemClock, TcpNet};
+use ps_words::begins_with_serve;
+use serve::run_serve;
+use std::io::{Error, ErrorKind};
 use std::process::ExitCode;
 use std::rt::Env;
+use std::sync::Wait;
 use std::{env, io};
 use streams::{StreamSink, StreamSource};
 
@@ -32,52 +32,69 @@ fn words_of(rt: &(impl Env + AllocGlobal)) -> io::Result<Vec<String>> {
     Ok(env::args(rt)?.skip(1).collect(rt.alloc())?)
 }
 
-/// Runs what the words of the process ask for. Words that the system doesn't hand out ask for nothing.
-fn run_process<I: Source, O: Sink, E: Sink, S: Cabinet>(
-    alloc: Global,
-    words: io::Result<Vec<String>>,
-    input: &mut I,
-    output: &mut O,
-    faults: &mut E,
-    cabinet: &mut S,
-) -> u8
-    ensures told { EndsWith result (λ status. Writes E.Sink faults.old faults.new (status_text status)) }
-    ensures usage { IfOk words (λ given. (result ≡ 2) ↔ (request_in (texts given.items) ≡ None)) }
-    ensures unopened { IsUnopened result → (input.new ≡ input.old) × (output.new ≡ output.old) }
-    ensures unasked { result ≡ 2 → cabinet.new ≡ cabinet.old }
-    ensures asked { IfOk words (λ given. OnFile given.items (λ file. AsksOnlyFor S.Cabinet file cabinet.old cabinet.new)) }
-    ensures batch { IfOk words (λ given. Batches I.Source O.Sink E.Sink S.Cabinet given.items input.old input.new output.old output.new faults.old faults.new cabinet.old cabinet.new result) }
-    ensures report { IfOk words (λ given. Reports I.Source O.Sink E.Sink S.Cabinet given.items input.old input.new output.old output.new faults.old faults.new cabinet.old cabinet.new result) }
-    ensures untaken { OnErr words ((input.new ≡ input.old) × (output.new ≡ output.old)) }
-{
-    let words = match words {
-        Ok(words) => words,
-        Err(error) => {
-            let memory = error.kind() == ErrorKind::OutOfMemory;
-            let status = if memory {
-                Status::OutOfMemory
-            } else {
-                Status::Usage
-            };
-            return conclude(faults, status);
+/// The status if the system doesn't hand out the words.
+fn status_without_words(error: &Error) -> Status {
+    if error.kind() == ErrorKind::OutOfMemory {
+        Status::OutOfMemory
+    } else {
+        Status::Usage
+    }
+}
+
+/// Tells why there is no address to listen on, and gives the exit status of the process.
+fn conclude_without_host<E: Sink>(faults: &mut E, error: HostError) -> u8 {
+    match error {
+        HostError::NoAddress => {
+            // As with the text of a status, a write that fails changes nothing else.
+            let _ = write_all(faults, b"PUBSUB_HOST is no IP address\n");
+            Status::Usage.code()
         }
+        HostError::OutOfMemory => conclude(faults, Status::OutOfMemory),
+    }
+}
+
+/// Runs `serve` over the net and the clock of the machine. Its waits are those of the handle.
+fn online<W: Wait, S: Cabinet, E: Sink>(
+    handle: &W,
+    rt: HostRuntime,
+    words: &[String],
+    cabinet: &mut S,
+    faults: &mut E,
+) -> u8 {
+    let address = match host_address(&rt) {
+        Ok(address) => address,
+        Err(error) => return conclude_without_host(faults, error),
     };
-    run_offline(alloc, words.as_slice(), input, output, faults, cabinet)
+    let output = StreamSink::new(rt.stdout());
+    let mut net = TcpNet::new(rt, rt.alloc(), address, output);
+    let clock = SystemClock::new(rt);
+    run_serve(handle, rt.alloc(), words, &mut net, cabinet, &clock, faults)
+}
+
+/// Runs a command that needs no network, over the streams of the process.
+fn offline<S: Cabinet, E: Sink>(
+    rt: HostRuntime,
+    words: &[String],
+    cabinet: &mut S,
+    faults: &mut E,
+) -> u8 {
+    let mut input = StreamSource::new(rt.stdin());
+    let mut output = StreamSink::new(rt.stdout());
+    run_offline(rt.alloc(), words, &mut input, &mut output, faults, cabinet)
 }
 
 fn main(rt: HostRuntime) -> ExitCode {
-    let mut input = StreamSource::new(rt.stdin());
-    let mut output = StreamSink::new(rt.stdout());
     let mut faults = StreamSink::new(rt.stderr());
+    let words = match words_of(&rt) {
+        Ok(words) => words,
+        Err(error) => return ExitCode::from(conclude(&mut faults, status_without_words(&error))),
+    };
     let mut cabinet = FileCabinet::new(rt);
-    let code = run_process(
-        rt.alloc(),
-        words_of(&rt),
-        &mut input,
-        &mut output,
-        &mut faults,
-        &mut cabinet,
-    );
+    let code = if begins_with_serve(words.as_slice()) {
+        online(&rt, rt, words.as_slice(), &mut cabinet, &mut faults)
+    } else {
+        offline(rt, words.as_slice(), &mut cabinet, &mut faults)
+    };
     // A file that can't be closed keeps its log beside it, and nothing is lost.
     let _ = cabinet.close();
     ExitCode::from(code)

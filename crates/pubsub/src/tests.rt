@@ -8,6 +8,7 @@ mod pages;
 mod pieces;
 mod reports;
 mod runs;
+mod serving;
 mod sessions;
 mod subscriptions;
 mod topics;
