@@ -44,7 +44,7 @@ pub(crate) fn read_more<L: Link>(link: &mut L, bytes: &mut Vec<u8>) -> Result<()
     ensures more { OnOk result (length bytes.old.items < length bytes.new.items) }
     ensures same { OnPause result (bytes.new.items ≡ bytes.old.items) }
 {
-    let mut room = [0u8; 16384];
+    let mut room = [0u8; 4096];
     match link.read(&mut room) {
         LinkGot::Bytes(count) => {
             bytes.extend_from_slice(&room[..count])?;
