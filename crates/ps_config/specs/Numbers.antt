@@ -12,6 +12,14 @@ default_retention = 604800000
 abbrev pub default_expiration : ℕ
 default_expiration = 2678400000
 
+-- ---- of a retry policy that doesn't name its delays: 10 seconds and 10 minutes
+
+abbrev pub default_least_delay : ℕ
+default_least_delay = 10000
+
+abbrev pub default_most_delay : ℕ
+default_most_delay = 600000
+
 -- ---- limits
 
 -- the seconds of a lease

@@ -29,6 +29,11 @@ pub const LEAST_ATTEMPTS: u32 = 5;
 
 pub const MOST_ATTEMPTS: u32 = 100;
 
+/// The delays after a failure, if a retry policy doesn't name them: 10 seconds and 10 minutes.
+pub const DEFAULT_LEAST_DELAY: u64 = 10_000;
+
+pub const DEFAULT_MOST_DELAY: u64 = 600_000;
+
 /// 10 minutes.
 pub const MOST_DELAY: u64 = 600_000;
 

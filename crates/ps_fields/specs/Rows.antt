@@ -3,7 +3,7 @@ use Rattle.std.specs.Borrow.{Bor}
 use Rattle.std.specs.Prelude.{ℕ, List, [], ◌∷◌, codes, if◌then◌else◌, Option, Some, None}
 use Rattle.std.specs.Str.{bytes_eq}
 use Rattle.ps_fields.specs.declared.rows.Object.{Object}
-use Rattle.ps_fields.specs.declared.rows.Object.TheVariants.{Topic, Subscription, Expiration, DeadLetter, Retry, TopicUpdate, SubscriptionUpdate, Publish, Message, Pull, Acknowledge}
+use Rattle.ps_fields.specs.declared.rows.Object.TheVariants.{Topic, Subscription, Expiration, DeadLetter, Retry, TopicUpdate, SubscriptionUpdate, Publish, Message, Pull, Acknowledge, ModifyAckDeadline}
 use Rattle.ps_fields.specs.declared.rows.Kind.{Kind}
 use Rattle.ps_fields.specs.declared.rows.Kind.TheVariants.{Text, Flag, Whole, Duration, Bytes, Map, Texts, Listed, Items, Open, Any}
 
@@ -76,6 +76,7 @@ rows Publish = (codes "messages", Items Message) ∷ []
 rows Message = message_rows
 rows Pull = (codes "maxMessages", Whole) ∷ (codes "returnImmediately", Flag) ∷ []
 rows Acknowledge = (codes "ackIds", Texts) ∷ []
+rows ModifyAckDeadline = (codes "ackIds", Texts) ∷ (codes "ackDeadlineSeconds", Whole) ∷ []
 
 -- the kind of the field of this name, if it is listed
 abbrev pub kind_in : List ℕ → List Row → Option Kind

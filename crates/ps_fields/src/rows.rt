@@ -28,6 +28,8 @@ pub enum Object {
     Pull,
     /// The body of an acknowledgement.
     Acknowledge,
+    /// The body of a change of deadlines.
+    ModifyAckDeadline,
 }
 
 /// What values a field may have. Null stands for no value.
@@ -84,6 +86,10 @@ impl Object {
                 ("returnImmediately", Kind::Flag),
             ],
             Object::Acknowledge => &[("ackIds", Kind::Texts)],
+            Object::ModifyAckDeadline => &[
+                ("ackIds", Kind::Texts),
+                ("ackDeadlineSeconds", Kind::Whole),
+            ],
         }
     }
 
