@@ -141,7 +141,7 @@ failed-ends t forward config (Ahead failures) h = absurd (false≢true h)
 failed-ends t forward config (Done cause) h = absurd (false≢true h)
 failed-ends t forward config (Gone cause) h = absurd (false≢true h)
 
-remarked-twice : (second first : Slot → Mark) (slots : List Slot) → remarked second (remarked first slots) ≡ remarked (λ s. second (remark s (first s))) slots
+pub remarked-twice : (second first : Slot → Mark) (slots : List Slot) → remarked second (remarked first slots) ≡ remarked (λ s. second (remark s (first s))) slots
 remarked-twice second first [] = refl
 remarked-twice second first (s ∷ ss) = ap (λ l. remark s (second (remark s (first s))) ∷ l) (remarked-twice second first ss)
 

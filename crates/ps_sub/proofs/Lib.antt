@@ -8,3 +8,6 @@ pub mod ExpungeLemmas
 pub mod DueLemmas
 pub mod LendLemmas
 pub mod DeadlineLemmas
+pub mod KeysLemmas
+pub mod TicketLemmas
+pub mod ModifyLemmas

@@ -57,21 +57,21 @@ leased-live deadline mark (Some lease) h = refl
 pub lending-live : (deadline : ℕ) (given : List Handed) → KeepsLive (lent_mark deadline given)
 lending-live deadline given s h = leased-live deadline s.mark (lease_in given s.item.number) h
 
-failed-live : (t : ℕ) (forward : Bool) (config : SubConfig) (mark : Mark) → is_gone mark ≡ false → is_gone (failed t forward config mark) ≡ false
+pub failed-live : (t : ℕ) (forward : Bool) (config : SubConfig) (mark : Mark) → is_gone mark ≡ false → is_gone (failed t forward config mark) ≡ false
 failed-live t forward config (Leased failures lease deadline) h = cond_both (is_dead config.dead_letter forward (one_more failures)) _ _ (λ m. is_gone m ≡ false) (λ e. refl) (λ e. refl)
 failed-live t forward config (Backlog failures until last) h = refl
 failed-live t forward config (Ahead failures) h = refl
 failed-live t forward config (Done cause) h = refl
 failed-live t forward config (Gone cause) h = h
 
-fallen-live : (mark : Mark) → is_gone mark ≡ false → is_gone (fallen mark) ≡ false
+pub fallen-live : (mark : Mark) → is_gone mark ≡ false → is_gone (fallen mark) ≡ false
 fallen-live (Leased failures lease deadline) h = refl
 fallen-live (Backlog failures until last) h = refl
 fallen-live (Ahead failures) h = refl
 fallen-live (Done cause) h = refl
 fallen-live (Gone cause) h = h
 
-pick-live : (b : Bool) (x y : Mark) → is_gone x ≡ false → is_gone y ≡ false → is_gone (if b then x else y) ≡ false
+pub pick-live : (b : Bool) (x y : Mark) → is_gone x ≡ false → is_gone y ≡ false → is_gone (if b then x else y) ≡ false
 pick-live true x y hx hy = hx
 pick-live false x y hx hy = hy
 

@@ -14,12 +14,15 @@ use Rattle.ps_sub.specs.Marks.{live}
 abbrev pub is_behind : ℕ → SubConfig → Holds → List Slot → Slot → Bool
 is_behind t config held slots s = any_earlier config.ordering (λ e. is_unacked (expired_mark t config held e)) slots s
 
--- the mark after all three parts of expunging
-abbrev pub expunged_mark : ℕ → SubConfig → Holds → List Slot → Slot → Mark
-expunged_mark t config held slots s =
+-- the mark after all three parts of expunging, by whether it is behind such a message
+abbrev pub mark_by : ℕ → SubConfig → Holds → Bool → Slot → Mark
+mark_by t config held behind s =
     let first = expired_mark t config held s in
-    let second = if is_behind t config held slots s then first else caught_up_as first in
+    let second = if behind then first else caught_up_as first in
     released_mark t config held (remark s second)
+
+abbrev pub expunged_mark : ℕ → SubConfig → Holds → List Slot → Slot → Mark
+expunged_mark t config held slots s = mark_by t config held (is_behind t config held slots s) s
 
 -- expunging changes its mark
 abbrev pub is_expunged : ℕ → SubConfig → Holds → List Slot → Slot → Bool

@@ -5,3 +5,6 @@ pub mod Entering
 pub mod Showing
 pub mod Expunging
 pub mod Lending
+pub mod Keys
+pub mod Tickets
+pub mod Modifying

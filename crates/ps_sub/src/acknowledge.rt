@@ -1,124 +1,58 @@
-ghost use Rattle.std.specs.Prelude.{◌≡◌, map, IfOk, ◌&&◌, not};
-ghost use Rattle.std.specs.List.{list_any};
-ghost use Rattle.ps_model.specs.Lists.{once};
-ghost use Rattle.ps_model.specs.Acknowledging.{may_ack, fits, is_named, is_early, is_good, is_unordered, mark_after_ack, same_ticket, invalid, unordered};
+ghost use Rattle.std.specs.Prelude.{◌≡◌, filter, map, true, IfOk, List, if◌then◌else◌};
+ghost use Rattle.ps_model.specs.declared.mark.DoneCause.TheVariants.{Acknowledged};
+ghost use Rattle.ps_model.specs.declared.mark.Mark.TheVariants.{Ahead, Done};
+ghost use Rattle.ps_model.specs.declared.mark.Slot.{Slot};
+ghost use Rattle.ps_model.specs.Acknowledging.{acknowledge, is_good, mark_after_ack, invalid, unordered};
+ghost use Rattle.ps_model.specs.Slots.{failures_of};
+ghost use Rattle.ps_sub.specs.Steady.{IsAscending};
 
-use crate::standing::{failures_of, has_order, is_earlier, is_unacked};
+use crate::keys::KeysSoFar;
+use crate::standing::{failures_of, is_unacked};
+use crate::tickets::{TicketSet, is_living, once};
 use ps_base::{List, OutOfMemory};
 use ps_model::{DoneCause, Mark, Slot, SubConfig, Ticket};
 use std::alloc::Global;
 
-fn may_ack(exactly_once: bool, lease: u64, mark: Mark) -> bool
-    ensures { result ≡ may_ack exactly_once lease mark }
+/// The mark of a message after a request. `named` says that one of its tickets may acknowledge the message, `early` that an
+/// earlier message of its key stays unacknowledged.
+fn mark_after(exactly_once: bool, named: bool, early: bool, mark: Mark) -> Mark
+    ensures { result ≡ (if named then (if early then (if exactly_once then mark else Ahead (failures_of mark)) else Done Acknowledged) else mark) }
 {
-    match mark {
-        Mark::Leased { lease: held, .. } => held == lease,
-        Mark::Backlog {
-            last: Some(held),
-            ..
-        } => !exactly_once && held == lease,
-        _ => false,
-    }
-}
-
-fn fits(exactly_once: bool, ticket: Ticket, slot: &Slot) -> bool
-    ensures { result ≡ fits exactly_once ticket slot.now }
-{
-    slot.item.number == ticket.number && may_ack(exactly_once, ticket.lease, slot.mark)
-}
-
-fn is_good(exactly_once: bool, slots: &[Slot], ticket: Ticket) -> bool
-    ensures { result ≡ is_good exactly_once slots.now ticket }
-{
-    slots.iter().any(|slot| fits(exactly_once, ticket, slot))
-}
-
-fn is_named(exactly_once: bool, tickets: &[Ticket], slot: &Slot) -> bool
-    ensures { result ≡ is_named exactly_once tickets.now slot.now }
-{
-    tickets
-        .iter()
-        .any(|ticket| fits(exactly_once, *ticket, slot))
-}
-
-/// Whether an earlier message of its key stays unacknowledged.
-#[tactic(auto, using(crate::proofs::OrderLemmas::any_earlier_none))]
-fn is_early(config: &SubConfig, tickets: &[Ticket], slots: &[Slot], slot: &Slot) -> bool
-    ensures { result ≡ is_early config.now tickets.now slots.now slot.now }
-{
-    has_order(config.ordering, slot)
-        && slots.iter().any(|e| {
-            is_earlier(config.ordering, e, slot)
-                && is_unacked(e.mark)
-                && !is_named(config.exactly_once, tickets, e)
-        })
-}
-
-fn mark_after(config: &SubConfig, tickets: &[Ticket], slots: &[Slot], slot: &Slot) -> Mark
-    ensures { result ≡ mark_after_ack config.now tickets.now slots.now slot.now }
-{
-    if !is_named(config.exactly_once, tickets, slot) {
-        slot.mark
-    } else if !is_early(config, tickets, slots, slot) {
+    if !named {
+        mark
+    } else if !early {
         Mark::Done {
             cause: DoneCause::Acknowledged,
         }
-    } else if config.exactly_once {
-        slot.mark
+    } else if exactly_once {
+        mark
     } else {
         Mark::Ahead {
-            failures: failures_of(slot.mark),
+            failures: failures_of(mark),
         }
     }
 }
 
-/// The marks after these tickets are acknowledged together.
+/// The marks after these tickets are acknowledged together, found on one walk.
 pub fn marks_after(
     alloc: Global,
     config: &SubConfig,
     tickets: &[Ticket],
     slots: &[Slot],
 ) -> Result<Vec<Mark>, OutOfMemory>
+    requires { IsAscending slots.now }
     ensures { IfOk result (λ marks. marks.items ≡ map (mark_after_ack config.now tickets.now slots.now) slots.now) }
 {
-    let marks = slots
-        .iter()
-        .map(|slot| mark_after(config, tickets, slots, slot))
-        .collect(alloc)?;
-    Ok(marks)
-}
-
-fn is_same(a: Ticket, b: Ticket) -> bool
-    ensures { result ≡ same_ticket a b }
-{
-    a == b
-}
-
-fn is_among(tickets: &[Ticket], ticket: Ticket) -> bool
-    ensures { result ≡ list_any (same_ticket ticket) tickets.now }
-{
-    tickets.iter().any(|seen| is_same(ticket, *seen))
-}
-
-/// Each ticket once, at its first place.
-fn once(alloc: Global, tickets: &[Ticket]) -> Result<Vec<Ticket>, OutOfMemory>
-    ensures { IfOk result (λ kept. kept.items ≡ once same_ticket tickets.now) }
-{
-    let mut kept: Vec<Ticket> = Vec::new(alloc);
-    for ticket in tickets {
-        if !is_among(kept.as_slice(), *ticket) {
-            kept.push(*ticket)?;
-        }
+    let set = TicketSet::of(alloc, tickets)?;
+    let mut keys = KeysSoFar::new(alloc);
+    let mut marks = Vec::with_capacity(alloc, slots.len())?;
+    for slot in slots {
+        let named = set.names(config.exactly_once, slot);
+        let stays = is_unacked(slot.mark) && !named;
+        let early = keys.pass(alloc, config.ordering, slot, stays)?;
+        marks.push(mark_after(config.exactly_once, named, early, slot.mark))?;
     }
-    Ok(kept)
-}
-
-fn is_unordered(config: &SubConfig, tickets: &[Ticket], slots: &[Slot], ticket: Ticket) -> bool
-    ensures { result ≡ is_unordered config.now tickets.now slots.now ticket }
-{
-    slots.iter().any(|slot| {
-        fits(config.exactly_once, ticket, slot) && is_early(config, tickets, slots, slot)
-    })
+    Ok(marks)
 }
 
 /// In exactly-once mode the tickets that don't name a living lease, each once.
@@ -128,6 +62,7 @@ pub fn invalid(
     slots: &[Slot],
     tickets: &[Ticket],
 ) -> Result<List<Ticket>, OutOfMemory>
+    requires { IsAscending slots.now }
     ensures { IfOk result (λ named. named ≡ invalid config.now slots.now tickets.now) }
 {
     if !config.exactly_once {
@@ -136,27 +71,36 @@ pub fn invalid(
     let kept = once(alloc, tickets)?;
     let named = kept
         .into_iter()
-        .filter(|ticket| !is_good(true, slots, *ticket))
+        .filter(|ticket| !is_living(slots, *ticket))
         .collect(alloc)?;
     Ok(List::from_vec(named))
 }
 
-/// In exactly-once mode the tickets of messages whose turn hasn't come, each once.
+/// Those of the tickets that name a living lease.
+fn living(alloc: Global, slots: &[Slot], tickets: Vec<Ticket>) -> Result<List<Ticket>, OutOfMemory>
+    requires { IsAscending slots.now }
+    ensures { IfOk result (λ named. named ≡ filter (is_good true slots.now) tickets.items) }
+{
+    let named = tickets
+        .into_iter()
+        .filter(|ticket| is_living(slots, *ticket))
+        .collect(alloc)?;
+    Ok(List::from_vec(named))
+}
+
+/// In exactly-once mode the tickets of messages whose turn hasn't come, each once: those of the request whose lease still
+/// lives after it.
 pub fn unordered(
     alloc: Global,
     config: &SubConfig,
-    slots: &[Slot],
+    after: &[Slot],
     tickets: &[Ticket],
 ) -> Result<List<Ticket>, OutOfMemory>
-    ensures { IfOk result (λ early. early ≡ unordered config.now slots.now tickets.now) }
+    requires { IsAscending after.now }
+    ensures { IfOk result (λ early. (slots : List Slot) → after.now ≡ acknowledge config.now tickets.now slots → early ≡ unordered config.now slots tickets.now) }
 {
     if !config.exactly_once {
         return Ok(List::new(alloc));
     }
-    let kept = once(alloc, tickets)?;
-    let early = kept
-        .into_iter()
-        .filter(|ticket| is_unordered(config, tickets, slots, *ticket))
-        .collect(alloc)?;
-    Ok(List::from_vec(early))
+    living(alloc, after, once(alloc, tickets)?)
 }

@@ -1,12 +1,14 @@
 ghost use Rattle.std.specs.Prelude.{◌≡◌, ◌+◌, ◌<◌, ◌^◌, ◌≤◌, IfOk, length};
 ghost use Rattle.ps_model.specs.Choice.{choice, handed};
+ghost use Rattle.ps_sub.specs.Steady.{IsAscending};
 
-use crate::standing::{failures_of, is_deliverable};
+use crate::keys::KeysSoFar;
+use crate::standing::{failures_of, is_deliverable, is_waiting};
 use ps_base::{List, OutOfMemory};
 use ps_model::{Handed, Slot};
 use std::alloc::Global;
 
-/// The first deliverable messages, at most `max`. They end before a message if the bytes chosen so far reach the
+/// The first deliverable messages, at most `max`, found on one walk. They end before a message if the bytes chosen so far reach the
 /// budget. The leases are numbered from `lease`.
 pub fn choose(
     alloc: Global,
@@ -17,10 +19,12 @@ pub fn choose(
     lease: u64,
     slots: &[Slot],
 ) -> Result<List<Handed>, OutOfMemory>
-    requires { lease + max < 2 ^ 64 }
+    requires ascending { IsAscending slots.now }
+    requires leases { lease + max < 2 ^ 64 }
     ensures few { IfOk result (λ given. length given ≤ max) }
     ensures value { IfOk result (λ given. given ≡ handed lease (choice now ordering max budget slots.now)) }
 {
+    let mut keys = KeysSoFar::new(alloc);
     let mut given = List::new(alloc);
     let mut left = max;
     let mut bytes = budget;
@@ -29,7 +33,8 @@ pub fn choose(
         if left == 0 || bytes == 0 {
             break;
         }
-        if is_deliverable(now, ordering, slots, slot) {
+        let held_back = keys.pass(alloc, ordering, slot, is_waiting(now, slot.mark))?;
+        if is_deliverable(now, held_back, slot.mark) {
             given.push(Handed {
                 number: slot.item.number,
                 lease: next,

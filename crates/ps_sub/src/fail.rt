@@ -1,12 +1,12 @@
-ghost use Rattle.std.specs.Prelude.{◌≡◌, ◌+◌, ◌-◌, ◌*◌, ◌^◌, ◌≤◌, min, map, false, IfOk};
+ghost use Rattle.std.specs.Prelude.{◌≡◌, ◌+◌, ◌-◌, ◌*◌, ◌^◌, ◌≤◌, min, map, true, false, IfOk, if◌then◌else◌};
 ghost use Rattle.std.specs.List.{list_any};
 ghost use Rattle.ps_base.specs.Moments.{last_moment};
 ghost use Rattle.ps_config.specs.Limits.{has_bad_delays};
 ghost use Rattle.ps_model.specs.Failing.{one_more, retry_at, is_dead, failed, fallen, mark_after_failing, dead_letter, dead_letters, is_due};
-ghost use Rattle.ps_model.specs.Slots.{any_earlier};
-ghost use Rattle.ps_sub.specs.Steady.{HasShortDelays};
+ghost use Rattle.ps_sub.specs.Steady.{HasShortDelays, IsAscending};
 
-use crate::standing::{has_order, is_due, is_earlier};
+use crate::keys::KeysSoFar;
+use crate::standing::is_due;
 use ps_base::OutOfMemory;
 use ps_model::{DeadLetter, DeadLetterPolicy, DoneCause, Mark, RetryPolicy, Slot, SubConfig};
 use std::alloc::Global;
@@ -112,32 +112,29 @@ fn fallen(mark: Mark) -> Mark
     }
 }
 
-/// Whether an earlier message of its key fails.
-#[tactic(auto, using(crate::proofs::OrderLemmas::any_earlier_none))]
-fn fails_before(now: u64, ordering: bool, slots: &[Slot], slot: &Slot) -> bool
-    ensures { result ≡ any_earlier ordering (is_due now) slots.now slot.now }
-{
-    has_order(ordering, slot)
-        && slots
-            .iter()
-            .any(|e| is_earlier(ordering, e, slot) && is_due(now, e))
-}
-
-fn mark_after(now: u64, forward: bool, config: &SubConfig, slots: &[Slot], slot: &Slot) -> Mark
+/// The mark after its message failed, or an earlier one of its key.
+pub fn mark_after(
+    now: u64,
+    forward: bool,
+    config: &SubConfig,
+    fails: bool,
+    behind: bool,
+    mark: Mark,
+) -> Mark
     requires delays { HasShortDelays config.now }
     requires moment { now ≤ last_moment }
-    ensures { result ≡ mark_after_failing (is_due now) now forward config.now slots.now slot.now }
+    ensures { result ≡ (if fails then failed now forward config.now mark else (if behind then fallen mark else mark)) }
 {
-    if is_due(now, slot) {
-        failed(now, forward, config, slot.mark)
-    } else if fails_before(now, config.ordering, slots, slot) {
-        fallen(slot.mark)
+    if fails {
+        failed(now, forward, config, mark)
+    } else if behind {
+        fallen(mark)
     } else {
-        slot.mark
+        mark
     }
 }
 
-/// The marks after the leases that are over have failed together.
+/// The marks after the leases that are over have failed together, found on one walk.
 pub fn marks_after(
     alloc: Global,
     now: u64,
@@ -145,30 +142,44 @@ pub fn marks_after(
     config: &SubConfig,
     slots: &[Slot],
 ) -> Result<Vec<Mark>, OutOfMemory>
+    requires ascending { IsAscending slots.now }
     requires delays { HasShortDelays config.now }
     requires moment { now ≤ last_moment }
     ensures { IfOk result (λ marks. marks.items ≡ map (mark_after_failing (is_due now) now forward config.now slots.now) slots.now) }
 {
-    let marks = slots
-        .iter()
-        .map(|slot| mark_after(now, forward, config, slots, slot))
-        .collect(alloc)?;
+    let mut keys = KeysSoFar::new(alloc);
+    let mut marks = Vec::with_capacity(alloc, slots.len())?;
+    for slot in slots {
+        let fails = is_due(now, slot);
+        let behind = keys.pass(alloc, config.ordering, slot, fails)?;
+        marks.push(mark_after(now, forward, config, fails, behind, slot.mark))?;
+    }
     Ok(marks)
 }
 
-fn dead_letter(now: u64, forward: bool, config: &SubConfig, slot: &Slot) -> Option<DeadLetter>
-    ensures { result ≡ dead_letter (is_due now) forward config.now slot.now.mark slot.now }
+/// The dead letter of a message that fails, if it has failed as often as the policy allows.
+pub fn letter_of(forward: bool, config: &SubConfig, slot: &Slot) -> Option<DeadLetter>
+    ensures { result ≡ dead_letter (λ _. true) forward config.now slot.now.mark slot.now }
 {
     match slot.mark {
         Mark::Leased { failures, .. } => {
             let failures = one_more(failures);
-            let is_dead = is_due(now, slot) && is_dead(&config.dead_letter, forward, failures);
-            is_dead.then_some(DeadLetter {
+            is_dead(&config.dead_letter, forward, failures).then_some(DeadLetter {
                 number: slot.item.number,
                 failures,
             })
         }
         _ => None,
+    }
+}
+
+fn dead_letter(now: u64, forward: bool, config: &SubConfig, slot: &Slot) -> Option<DeadLetter>
+    ensures { result ≡ dead_letter (is_due now) forward config.now slot.now.mark slot.now }
+{
+    if is_due(now, slot) {
+        letter_of(forward, config, slot)
+    } else {
+        None
     }
 }
 

@@ -4,13 +4,17 @@
 mod acknowledge;
 mod choose;
 mod fail;
+mod keys;
 mod lend;
 mod marks;
+mod modify;
 mod outcome;
 mod retention;
 mod showing;
 mod standing;
 mod sub;
+mod tickets;
 
-pub use outcome::{AckOutcome, SubCounts};
+pub use outcome::{AckOutcome, ModifyOutcome, SubCounts};
 pub use sub::Sub;
+pub use tickets::TicketSet;

@@ -1,5 +1,5 @@
 use ps_base::List;
-use ps_model::Ticket;
+use ps_model::{DeadLetter, Ticket};
 
 /// What an acknowledgement did.
 #[derive(Drop)]
@@ -10,6 +10,17 @@ pub struct AckOutcome {
     pub invalid: List<Ticket>,
     /// In exactly-once mode the tickets of messages whose turn hasn't come, each once.
     pub unordered: List<Ticket>,
+}
+
+/// What a change of deadlines did.
+#[derive(Drop)]
+pub struct ModifyOutcome {
+    /// Whether a mark changed.
+    pub changed: bool,
+    /// In exactly-once mode the tickets that don't name a living lease, each once.
+    pub invalid: List<Ticket>,
+    /// The messages that have failed as often as the dead-letter policy allows, in order of number.
+    pub dead: List<DeadLetter>,
 }
 
 /// How many messages of a subscription have a mark of each kind.

@@ -1,8 +1,10 @@
 ghost use Rattle.std.specs.Prelude.{◌≡◌, map, IfOk};
 ghost use Rattle.std.specs.List.{list_any};
 ghost use Rattle.ps_model.specs.Retention.{holds, gone_cause, lapsed, expired_mark, caught_up_as, released_mark};
-ghost use Rattle.ps_sub.specs.Expunging.{is_behind, expunged_mark, is_expunged, is_moved};
+ghost use Rattle.ps_sub.specs.Expunging.{is_behind, expunged_mark, is_expunged, is_moved, mark_by};
+ghost use Rattle.ps_sub.specs.Steady.{IsAscending};
 
+use crate::keys::KeysSoFar;
 use crate::marks::is_same;
 use crate::standing::{has_order, is_done, is_due, is_earlier, is_unacked};
 use ps_base::OutOfMemory;
@@ -59,14 +61,14 @@ fn is_behind(now: u64, config: &SubConfig, held: &Holds, slots: &[Slot], slot: &
         })
 }
 
-/// The mark after the three parts of expunging: what isn't held lapses, what was ahead catches up, and what is done
-/// and isn't held lapses.
-fn mark_after(now: u64, config: &SubConfig, held: &Holds, slots: &[Slot], slot: &Slot) -> Mark
-    ensures { result ≡ expunged_mark now config.now held.now slots.now slot.now }
+/// The mark after the three parts of expunging: what isn't held lapses, what was ahead of no unacknowledged message catches
+/// up, and what is done and isn't held lapses.
+fn mark_after(now: u64, config: &SubConfig, held: &Holds, behind: bool, slot: &Slot) -> Mark
+    ensures { result ≡ mark_by now config.now held.now behind slot.now }
 {
     let expired = expired_mark(now, config, held, slot);
     let caught_up = match expired {
-        Mark::Ahead { .. } if !is_behind(now, config, held, slots, slot) => Mark::Done {
+        Mark::Ahead { .. } if !behind => Mark::Done {
             cause: DoneCause::Acknowledged,
         },
         _ => expired,
@@ -78,7 +80,7 @@ fn mark_after(now: u64, config: &SubConfig, held: &Holds, slots: &[Slot], slot: 
     }
 }
 
-/// The marks after expunging.
+/// The marks after expunging, found on one walk.
 pub fn marks_after(
     alloc: Global,
     now: u64,
@@ -86,28 +88,24 @@ pub fn marks_after(
     held: &Holds,
     slots: &[Slot],
 ) -> Result<Vec<Mark>, OutOfMemory>
+    requires { IsAscending slots.now }
     ensures { IfOk result (λ marks. marks.items ≡ map (expunged_mark now config.now held.now slots.now) slots.now) }
 {
-    let marks = slots
-        .iter()
-        .map(|slot| mark_after(now, config, held, slots, slot))
-        .collect(alloc)?;
+    let mut keys = KeysSoFar::new(alloc);
+    let mut marks = Vec::with_capacity(alloc, slots.len())?;
+    for slot in slots {
+        let stays = is_unacked(expired_mark(now, config, held, slot));
+        let behind = keys.pass(alloc, config.ordering, slot, stays)?;
+        marks.push(mark_after(now, config, held, behind, slot))?;
+    }
     Ok(marks)
 }
 
 fn is_expunged(now: u64, config: &SubConfig, held: &Holds, slots: &[Slot], slot: &Slot) -> bool
     ensures { result ≡ is_expunged now config.now held.now slots.now slot.now }
 {
-    !is_same(mark_after(now, config, held, slots, slot), slot.mark)
-}
-
-/// Whether expunging changes a mark.
-pub fn any_expunged(now: u64, config: &SubConfig, held: &Holds, slots: &[Slot]) -> bool
-    ensures { result ≡ list_any (is_expunged now config.now held.now slots.now) slots.now }
-{
-    slots
-        .iter()
-        .any(|slot| is_expunged(now, config, held, slots, slot))
+    let behind = is_behind(now, config, held, slots, slot);
+    !is_same(mark_after(now, config, held, behind, slot), slot.mark)
 }
 
 /// Whether the moment alone changes a mark.

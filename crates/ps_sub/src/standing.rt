@@ -1,7 +1,7 @@
 ghost use Rattle.std.specs.Prelude.{◌≡◌, ◌&&◌, not};
 ghost use Rattle.ps_message.specs.Lists.{is_empty};
 ghost use Rattle.ps_model.specs.Slots.{is_unacked, is_gone, is_done, is_earlier, any_earlier, failures_of};
-ghost use Rattle.ps_model.specs.Choice.{is_ready, is_waiting, is_deliverable};
+ghost use Rattle.ps_model.specs.Choice.{is_ready, is_waiting};
 ghost use Rattle.ps_model.specs.Failing.{is_due, is_over};
 
 use ps_model::{Mark, Slot};
@@ -72,7 +72,7 @@ fn is_ready(now: u64, mark: Mark) -> bool
     }
 }
 
-fn is_waiting(now: u64, mark: Mark) -> bool
+pub fn is_waiting(now: u64, mark: Mark) -> bool
     ensures { result ≡ is_waiting now mark }
 {
     match mark {
@@ -81,17 +81,9 @@ fn is_waiting(now: u64, mark: Mark) -> bool
     }
 }
 
-/// Whether an earlier message of its key waits for a delay.
-#[tactic(auto, using(crate::proofs::OrderLemmas::any_earlier_none))]
-fn waits_before(now: u64, ordering: bool, slots: &[Slot], slot: &Slot) -> bool
-    ensures { result ≡ any_earlier ordering (λ e. is_waiting now e.mark) slots.now slot.now }
+/// Whether the message may be handed out. `held_back` says that an earlier message of its key waits for a delay.
+pub fn is_deliverable(now: u64, held_back: bool, mark: Mark) -> bool
+    ensures { result ≡ (is_ready now mark && not held_back) }
 {
-    has_order(ordering, slot)
-        && slots.iter().any(|e| is_earlier(ordering, e, slot) && is_waiting(now, e.mark))
-}
-
-pub fn is_deliverable(now: u64, ordering: bool, slots: &[Slot], slot: &Slot) -> bool
-    ensures { result ≡ is_deliverable now ordering slots.now slot.now }
-{
-    is_ready(now, slot.mark) && !waits_before(now, ordering, slots, slot)
+    is_ready(now, mark) && !held_back
 }

@@ -8,6 +8,7 @@ ghost use Rattle.ps_model.specs.Choice.{choice, deliverable, handed, lent};
 ghost use Rattle.ps_model.specs.Counting.{is_acknowledged, is_dead_lettered};
 ghost use Rattle.ps_model.specs.Failing.{fail, dead_letters, is_due};
 ghost use Rattle.ps_model.specs.Lists.{tally};
+ghost use Rattle.ps_model.specs.Modifying.{modify, modify_dead, modify_invalid};
 ghost use Rattle.ps_model.specs.Retention.{expunge};
 ghost use Rattle.ps_model.specs.Slots.{is_backlog, is_leased};
 ghost use Rattle.ps_sub.specs.Entering.{EndsBy, WasLent, IsInOrder};
@@ -18,8 +19,9 @@ ghost use Rattle.ps_sub.specs.Showing.{unacknowledged, marks, first_deadline, ha
 use crate::choose::choose;
 use crate::lend::lend;
 use crate::marks::{drop_gone, push_live};
-use crate::outcome::{AckOutcome, SubCounts};
-use crate::{acknowledge, fail, marks, retention, showing};
+use crate::modify::Asked;
+use crate::outcome::{AckOutcome, ModifyOutcome, SubCounts};
+use crate::{acknowledge, fail, marks, modify, retention, showing};
 use ps_base::{Duplicate, List, OutOfMemory};
 use ps_model::{DeadLetter, Handed, Holds, Item, Mark, Slot, SubConfig, Ticket};
 use std::alloc::Global;
@@ -31,8 +33,10 @@ use std::marker::Model;
 /// Moments are in milliseconds since 1970. `OutOfMemory` is the only error. After it, drop the subscription: its state
 /// is unspecified.
 ///
-/// The core doesn't call `expunge`, `unacknowledged`, `marks`, `configure`, `drop_all`, `is_due`, `next_lease` and `has`
-/// yet. They are for retention, snapshots, updates, detaching and seeking.
+/// An acknowledgement, a change of deadlines, failing and expunging are one walk through the messages each, and a look-up of
+/// each ticket. On the walk an ordered subscription keeps the keys that it met.
+///
+/// The core doesn't call `unacknowledged`, `marks` and `is_due` yet. They are for snapshots and retention.
 #[derive(Drop)]
 pub struct Sub {
     slots: Vec<Slot>,
@@ -132,13 +136,44 @@ impl Sub {
     {
         let slots = self.slots.as_slice();
         let invalid = acknowledge::invalid(alloc, &self.config, slots, tickets)?;
-        let unordered = acknowledge::unordered(alloc, &self.config, slots, tickets)?;
         let made = acknowledge::marks_after(alloc, &self.config, tickets, slots)?;
         let changed = marks::write_marks(self.slots.as_mut_slice(), made.as_slice());
+        let after = self.slots.as_slice();
+        let unordered = acknowledge::unordered(alloc, &self.config, after, tickets)?;
         Ok(AckOutcome {
             changed,
             invalid,
             unordered,
+        })
+    }
+
+    /// Changes deadlines together: each lease ends so many seconds from now, and with 0 seconds it fails at once. Of several
+    /// items for one lease the last counts. Items for other leases have no effect; in exactly-once mode the result names
+    /// them. `forward` is as for `settle` (Pub/Sub documentation, "Lease management"; API reference, ModifyAckDeadline).
+    pub fn modify(
+        &mut self,
+        alloc: Global,
+        now: u64,
+        items: &[(Ticket, u32)],
+        forward: bool,
+    ) -> Result<ModifyOutcome, OutOfMemory>
+        requires moment { now ≤ last_moment }
+        ensures after { OnOk result (self.new ≡ record self.old { slots = modify now forward self.old.config items.now self.old.slots }) }
+        ensures same { IfOk result (λ outcome. outcome.changed ≡ false → self.new.slots ≡ self.old.slots) }
+        ensures changed { IfOk result (λ outcome. outcome.changed ≡ true → self.new.slots ≢ self.old.slots) }
+        ensures invalid { IfOk result (λ outcome. outcome.invalid ≡ modify_invalid self.old.config items.now self.old.slots) }
+        ensures dead { IfOk result (λ outcome. outcome.dead ≡ modify_dead now forward self.old.config items.now self.old.slots) }
+    {
+        let slots = self.slots.as_slice();
+        let asked = Asked::of(alloc, items)?;
+        let invalid = modify::invalid(alloc, &self.config, slots, items)?;
+        let dead = modify::dead_letters(alloc, forward, &self.config, &asked, slots)?;
+        let made = modify::marks_after(alloc, now, forward, &self.config, &asked, slots)?;
+        let changed = marks::write_marks(self.slots.as_mut_slice(), made.as_slice());
+        Ok(ModifyOutcome {
+            changed,
+            invalid,
+            dead: List::from_vec(dead),
         })
     }
 
@@ -173,9 +208,6 @@ impl Sub {
         ensures { OnOk result (self.new ≡ record self.old { slots = live (expunge now self.old.config holds.now self.old.slots) }) }
     {
         let slots = self.slots.as_slice();
-        if !retention::any_expunged(now, &self.config, holds, slots) {
-            return Ok(());
-        }
         let made = retention::marks_after(alloc, now, &self.config, holds, slots)?;
         marks::write_marks(self.slots.as_mut_slice(), made.as_slice());
         drop_gone(&mut self.slots);

@@ -1,9 +1,9 @@
 use Rattle.std.proofs.Common.{◌≡◌, List, ap, sym, subst, ◌∙◌, arith}
 use Rattle.std.proofs.lemmas.List.{with_items_is}
 use Rattle.ps_model.specs.declared.mark.Slot.{Slot}
-use Rattle.ps_model.specs.Acknowledging.{acknowledge}
-use Rattle.ps_sub.specs.Steady.{IsSteady}
-use Rattle.ps_sub.proofs.SteadyLemmas.{steady-remarked, acknowledging-live}
+use Rattle.ps_model.specs.Acknowledging.{acknowledge, mark_after_ack}
+use Rattle.ps_sub.specs.Steady.{IsAscending, IsSteady}
+use Rattle.ps_sub.proofs.SteadyLemmas.{ascending-remarked, steady-remarked, acknowledging-live}
 use Rattle.ps_sub.proofs.MarkLemmas.{written_marks, same_slots, other_slots, state_of}
 use Rattle.ps_sub.proofs.sub.Sub.acknowledge.Goals as goal
 
@@ -33,3 +33,27 @@ invariant_of-self c =
     rw (c.write_marks-changed.ensures.after, c.as_slice.ensures.value, c.in_ok-made.ensures, c.as_mut_slice.ensures.value, c.as_slice-slots.ensures.value) (written_marks _ _) in
     subst (λ (ss : List Slot). IsSteady ss inside.config) (sym (with_items_is inside.slots c.write_marks-changed.new.slots (omega arith) ∙ written))
     (steady-remarked _ _ _ (acknowledging-live inside.config c.args.tickets.now inside.slots.items) c.self.invariant)
+
+pub invariant_of-self-2 : goal.invariant_of-self-2
+invariant_of-self-2 c =
+    let inside = c.self.inside in
+    let written : c.write_marks-changed.new.slots ≡ acknowledge inside.config c.args.tickets.now inside.slots.items =
+    rw (c.write_marks-changed.ensures.after, c.as_slice.ensures.value, c.in_ok-made.ensures, c.as_mut_slice.ensures.value, c.as_slice-slots.ensures.value) (written_marks _ _) in
+    subst (λ (ss : List Slot). IsSteady ss inside.config) (sym (with_items_is inside.slots c.write_marks-changed.new.slots (omega arith) ∙ written))
+    (steady-remarked _ _ _ (acknowledging-live inside.config c.args.tickets.now inside.slots.items) c.self.invariant)
+
+pub unordered-requires : goal.unordered-requires
+unordered-requires c =
+    let inside = c.self.inside in
+    let written : c.write_marks-changed.new.slots ≡ acknowledge inside.config c.args.tickets.now inside.slots.items =
+    rw (c.write_marks-changed.ensures.after, c.as_slice.ensures.value, c.in_ok-made.ensures, c.as_mut_slice.ensures.value, c.as_slice-slots.ensures.value) (written_marks _ _) in
+    let after = c.as_slice-after.ensures.value ∙ with_items_is inside.slots c.write_marks-changed.new.slots (omega arith) ∙ written in
+    subst IsAscending (sym after) (ascending-remarked (mark_after_ack inside.config c.args.tickets.now inside.slots.items) inside.slots.items c.self.invariant.ascending)
+
+pub returns-clause-unordered : goal.returns-clause-unordered
+returns-clause-unordered c =
+    let inside = c.self.inside in
+    let written : c.write_marks-changed.new.slots ≡ acknowledge inside.config c.args.tickets.now inside.slots.items =
+    rw (c.write_marks-changed.ensures.after, c.as_slice.ensures.value, c.in_ok-made.ensures, c.as_mut_slice.ensures.value, c.as_slice-slots.ensures.value) (written_marks _ _) in
+    let after = c.as_slice-after.ensures.value ∙ with_items_is inside.slots c.write_marks-changed.new.slots (omega arith) ∙ written in
+    rw (← c.self.view_is) (c.in_ok-unordered.ensures inside.slots.items after)

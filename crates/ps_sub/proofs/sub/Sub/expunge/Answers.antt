@@ -5,7 +5,6 @@ use Rattle.ps_model.specs.Slots.{remarked}
 use Rattle.ps_sub.specs.Expunging.{expunged_mark}
 use Rattle.ps_sub.specs.Marks.{live}
 use Rattle.ps_sub.specs.Steady.{IsSteady}
-use Rattle.ps_sub.proofs.DueLemmas.{expunge-rest}
 use Rattle.ps_sub.proofs.ExpungeLemmas.{expunge-is, steady-live}
 use Rattle.ps_sub.proofs.MarkLemmas.{written_marks, state_of}
 use Rattle.ps_sub.proofs.sub.Sub.expunge.Goals as goal
@@ -25,10 +24,3 @@ returns c =
     rw (c.write_marks.ensures.after, c.as_slice.ensures.value, c.in_ok-made.ensures, c.as_mut_slice.ensures.value, c.as_slice-slots.ensures.value) (written_marks _ _) in
     let left = c.drop_gone.ensures ∙ ap live (with_items_is inside.slots c.write_marks.new.slots (omega arith) ∙ written ∙ sym (expunge-is c.args.now inside.config c.args.holds.now inside.slots.items)) in
     rw (← c.self.view_is) (ap (λ (ss : List Slot). state_of ss inside.config inside.next_lease) left)
-
-pub returns-then-not-any_expunged : goal.returns-then-not-any_expunged
-returns-then-not-any_expunged c =
-    let inside = c.self.inside in
-    let told = rw c.as_slice-slots.ensures.value at c.any_expunged.ensures in
-    let same = expunge-rest c.args.now inside.config c.args.holds.now inside.slots.items (sym told ∙ c.if-not-any_expunged.true) c.self.invariant.live in
-    rw (← c.self.view_is) (ap (λ (ss : List Slot). state_of ss inside.config inside.next_lease) (sym same))
