@@ -1,3 +1,4 @@
 pub mod Living
 pub mod Outcomes
 pub mod Kept
+pub mod Recorded

@@ -3,5 +3,8 @@ pub mod Written
 pub mod Seen
 pub mod Moving
 pub mod Pulling
+pub mod Ids
+pub mod Returning
 pub mod Acknowledging
+pub mod Modifying
 pub mod Search

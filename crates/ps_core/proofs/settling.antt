@@ -1,5 +1,6 @@
 pub mod Settings
 pub mod Passes
+pub mod CaughtUp
 pub mod Expunging
 pub mod Ending
 pub mod Moving

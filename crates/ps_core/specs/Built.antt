@@ -19,11 +19,8 @@ unbuilt_topic_setting c = first_name ((is_some c.retention, codes "messageRetent
 abbrev pub sub_settings : SubConfig → List (Bool × List ℕ)
 sub_settings c =
     (is_some c.dead_letter, codes "deadLetterPolicy")
-    ∷ (c.exactly_once, codes "enableExactlyOnceDelivery")
-    ∷ (c.ordering, codes "enableMessageOrdering")
     ∷ (not (nat_eq c.retention default_sub.retention), codes "messageRetentionDuration")
     ∷ (c.retain_acked, codes "retainAckedMessages")
-    ∷ (is_some c.retry, codes "retryPolicy")
     ∷ []
 
 abbrev pub unbuilt_sub_setting : SubConfig → Option (List ℕ)
@@ -36,11 +33,9 @@ unbuilt_topic_mask mask = first_name ((has_bit mask 1, codes "messageRetentionDu
 abbrev pub unbuilt_sub_mask : Mask → Option (List ℕ)
 unbuilt_sub_mask mask = first_name (
     (has_bit mask 5, codes "deadLetterPolicy")
-    ∷ (has_bit mask 7, codes "enableExactlyOnceDelivery")
     ∷ (has_bit mask 2, codes "messageRetentionDuration")
     ∷ (has_bit mask 8, codes "pushConfig")
     ∷ (has_bit mask 1, codes "retainAckedMessages")
-    ∷ (has_bit mask 6, codes "retryPolicy")
     ∷ [])
 
 -- what a command asks for that isn't built: a setting, or the whole call
@@ -61,7 +56,7 @@ unbuilt (DeleteSubscription subscription) = None
 unbuilt (ListSubscriptions project paging) = None
 unbuilt (Pull subscription most budget seconds) = None
 unbuilt (Acknowledge subscription ids) = None
-unbuilt (ModifyAckDeadline subscription items) = Some (codes "ModifyAckDeadline")
+unbuilt (ModifyAckDeadline subscription items) = None
 unbuilt (SeekTime subscription time) = Some (codes "Seek")
 unbuilt (SeekSnapshot subscription snapshot) = Some (codes "Seek")
 unbuilt (Detach subscription) = None

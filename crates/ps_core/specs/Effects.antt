@@ -7,6 +7,7 @@ use Rattle.ps_config.specs.declared.config.TopicConfig.{TopicConfig}
 use Rattle.ps_config.specs.declared.mask.Mask.{Mask}
 use Rattle.ps_message.specs.declared.message.Message.{Message}
 use Rattle.ps_model.specs.declared.mark.Handed.{Handed}
+use Rattle.ps_model.specs.declared.mark.Slot.{Slot}
 use Rattle.ps_model.specs.declared.mark.Ticket.{Ticket}
 use Rattle.ps_model.specs.declared.world.MessageRow.{MessageRow}
 use Rattle.ps_model.specs.declared.world.TopicRow.{TopicRow}
@@ -14,6 +15,9 @@ use Rattle.ps_model.specs.Acknowledging.{acknowledge}
 use Rattle.ps_model.specs.Choice.{choice, handed, lent}
 use Rattle.ps_model.specs.Failing.{fail, is_due}
 use Rattle.ps_model.specs.Forwarding.{message_rows}
+use Rattle.ps_model.specs.Modifying.{modify}
+use Rattle.ps_model.specs.Retention.{caught_up_mark}
+use Rattle.ps_model.specs.Slots.{remarked}
 use Rattle.ps_tables.specs.declared.kept_subscription.KeptSubscription.{KeptSubscription}
 use Rattle.ps_core.specs.State.{State}
 use Rattle.ps_tables.specs.Subscriptions.{with_slots, filter_of, is_had, enter_subscription}
@@ -95,6 +99,17 @@ given_of at most budget x = handed x.sub.next_lease (choice at x.sub.config.orde
 abbrev pub lend_subscription : ℕ → List Handed → KeptSubscription → KeptSubscription
 lend_subscription deadline given x = record x { sub = record x.sub { slots = lent deadline given x.sub.slots; next_lease = x.sub.next_lease + length given } }
 
+-- what was ahead of a message that is acknowledged now catches up with it
+abbrev pub caught_up : Bool → List Slot → List Slot
+caught_up ordering slots = remarked (caught_up_mark ordering slots) slots
+
+abbrev pub caught_up_subscription : KeptSubscription → KeptSubscription
+caught_up_subscription x = with_slots x (caught_up x.sub.config.ordering x.sub.slots)
+
 -- the subscription after these acknowledged
 abbrev pub ack_subscription : List Ticket → KeptSubscription → KeptSubscription
-ack_subscription tickets x = with_slots x (acknowledge x.sub.config tickets x.sub.slots)
+ack_subscription tickets x = with_slots x (caught_up x.sub.config.ordering (acknowledge x.sub.config tickets x.sub.slots))
+
+-- the subscription after deadlines were set and leases given up
+abbrev pub modify_subscription : ℕ → List (Ticket × ℕ) → KeptSubscription → KeptSubscription
+modify_subscription at items x = with_slots x (modify at false x.sub.config items x.sub.slots)

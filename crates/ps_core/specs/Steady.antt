@@ -1,15 +1,14 @@
 -- What holds of every state of a core.
-use Rattle.std.specs.Prelude.{◌≡◌, ◌≢◌, ◌+◌, ◌*◌, ◌^◌, ◌<◌, ◌≤◌, true, None, []}
+use Rattle.std.specs.Prelude.{◌≡◌, ◌≢◌, ◌+◌, ◌*◌, ◌^◌, ◌<◌, ◌≤◌, Bool, true, false, List, None, []}
 use Rattle.std.specs.List.{AllByRecursion}
 use Rattle.ps_base.specs.Moments.{last_moment}
 use Rattle.ps_config.specs.declared.config.SubConfig.{SubConfig}
-use Rattle.ps_model.specs.declared.mark.Mark.{Mark}
-use Rattle.ps_model.specs.declared.mark.Mark.TheVariants.{Backlog, Leased, Ahead, Done, Gone}
 use Rattle.ps_model.specs.declared.mark.Slot.{Slot}
 use Rattle.ps_model.specs.declared.world.TopicRow.{TopicRow}
 use Rattle.ps_model.specs.declared.world.MessageRow.{MessageRow}
 use Rattle.ps_message.specs.Limits.{most_messages}
 use Rattle.ps_model.specs.Checks.{new_sub_fault}
+use Rattle.ps_model.specs.Slots.{any_earlier, is_ahead, is_gone, is_unacked}
 use Rattle.ps_model.specs.Sound.{Ordered}
 use Rattle.ps_model.specs.Worlds.{row_of, slot_of}
 use Rattle.ps_names.specs.Names.{is_topic_name, is_sub_name}
@@ -18,20 +17,16 @@ use Rattle.ps_core.specs.Built.{unbuilt_topic_setting, unbuilt_sub_setting}
 use Rattle.ps_tables.specs.Subscriptions.{filter_of, is_had}
 use Rattle.ps_core.specs.State.{State}
 
--- the marks that there are so far: nothing is ahead, and nothing that is gone stays
-abbrev pub IsPlainMark : Mark → Type 0
-IsPlainMark (Backlog failures until last) = until ≡ 0
-IsPlainMark (Leased failures lease deadline) = Unit {0}
-IsPlainMark (Ahead failures) = ⊥
-IsPlainMark (Done cause) = Unit {0}
-IsPlainMark (Gone cause) = ⊥
+-- a message that is ahead has an earlier unacknowledged one of its key, so nothing is to catch up
+abbrev pub IsCaughtUp : Bool → List Slot → Type 0
+IsCaughtUp ordering slots = AllByRecursion (λ (s : Slot). is_ahead s.mark ≡ true → any_earlier ordering (λ (e : Slot). is_unacked e.mark) slots s ≡ true) slots
 
--- the slot is of a message that is there, and agrees with the message's row
+-- the slot is of a message that is there, and agrees with the message's row; nothing that is gone stays
 pub record IsJoined (s : State) (x : KeptSubscription) (slot : Slot) : Type 0 where
   pub row : slot_of s.messages (row_of x.number slot) ≡ slot
   pub number : slot.item.number < s.next_message
   pub publish : slot.item.publish ≤ s.now
-  pub plain : IsPlainMark slot.mark
+  pub here : is_gone slot.mark ≡ false
 
 -- settings that pass their checks, all of them built
 pub record HasGoodSettings (config : SubConfig) : Type 0 where
@@ -44,6 +39,7 @@ pub record IsSteadySubscription (s : State) (x : KeptSubscription) : Type 0 wher
   pub leases : x.sub.next_lease ≤ most_messages * s.count + 1
   pub slots : Ordered (λ (a b : Slot). a.item.number < b.item.number) x.sub.slots
   pub joined : AllByRecursion (IsJoined s x) x.sub.slots
+  pub caught_up : IsCaughtUp x.sub.config.ordering x.sub.slots
   -- what is detached has nothing
   pub detached : x.detached ≡ true → x.sub.slots ≡ []
   -- its topic was made

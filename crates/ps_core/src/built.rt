@@ -1,14 +1,15 @@
 ghost use Rattle.std.specs.Prelude.{◌≡◌, ◌∷◌, [], Some, None, IfOk, MatchOption, not, option_map};
 ghost use Rattle.ps_base.specs.declared.reason.Reason.TheVariants.{UpdateMask};
+ghost use Rattle.std.specs.List.{list_any};
 ghost use Rattle.ps_config.specs.Limits.{sub_fault, topic_fault};
 ghost use Rattle.ps_message.specs.Lists.{first_of};
 ghost use Rattle.ps_message.specs.Messages.{broken};
-ghost use Rattle.ps_model.specs.Checks.{argument_fault, as_read, lease_seconds};
+ghost use Rattle.ps_model.specs.Checks.{argument_fault, as_read, has_long_deadline, lease_seconds};
 ghost use Rattle.ps_config.specs.Masks.{default_sub, default_topic, is_mask, masked_sub, masked_topic};
 ghost use Rattle.ps_core.specs.Calls.{is_tick};
 ghost use Rattle.ps_core.specs.Built.{unbuilt, unbuilt_topic_setting, unbuilt_sub_setting, unbuilt_topic_mask, unbuilt_sub_mask};
 
-use ps_base::{Duplicate, OutOfMemory, Reason};
+use ps_base::{AckId, Duplicate, OutOfMemory, Reason};
 use ps_config::{
     DEFAULT_RETENTION, LEAST_ACK_SECONDS, MOST_ACK_SECONDS, Mask, apply_sub, apply_topic,
     check_sub, check_topic,
@@ -32,16 +33,10 @@ fn unbuilt_sub_setting(config: &SubConfig) -> Option<&'static str>
 {
     if config.dead_letter.is_some() {
         Some("deadLetterPolicy")
-    } else if config.exactly_once {
-        Some("enableExactlyOnceDelivery")
-    } else if config.ordering {
-        Some("enableMessageOrdering")
     } else if config.retention != DEFAULT_RETENTION {
         Some("messageRetentionDuration")
     } else if config.retain_acked {
         Some("retainAckedMessages")
-    } else if config.retry.is_some() {
-        Some("retryPolicy")
     } else {
         None
     }
@@ -62,16 +57,12 @@ fn unbuilt_sub_mask(mask: Mask) -> Option<&'static str>
 {
     if mask.has(5) {
         Some("deadLetterPolicy")
-    } else if mask.has(7) {
-        Some("enableExactlyOnceDelivery")
     } else if mask.has(2) {
         Some("messageRetentionDuration")
     } else if mask.has(8) {
         Some("pushConfig")
     } else if mask.has(1) {
         Some("retainAckedMessages")
-    } else if mask.has(6) {
-        Some("retryPolicy")
     } else {
         None
     }
@@ -94,13 +85,13 @@ pub fn unbuilt(command: &Command) -> Option<&'static str>
         | Command::ListSubscriptions { .. }
         | Command::Pull { .. }
         | Command::Acknowledge { .. }
+        | Command::ModifyAckDeadline { .. }
         | Command::Detach { .. } => None,
         Command::CreateTopic { config, .. } => unbuilt_topic_setting(config),
         Command::UpdateTopic { mask, .. } => unbuilt_topic_mask(*mask),
         Command::CreateSubscription { config, .. } => unbuilt_sub_setting(config),
         Command::UpdateSubscription { mask, .. } => unbuilt_sub_mask(*mask),
         Command::ListTopicSnapshots { .. } => Some("ListTopicSnapshots"),
-        Command::ModifyAckDeadline { .. } => Some("ModifyAckDeadline"),
         Command::SeekTime { .. } | Command::SeekSnapshot { .. } => Some("Seek"),
         Command::CreateSnapshot { .. } => Some("CreateSnapshot"),
         Command::UpdateSnapshot { .. } => Some("UpdateSnapshot"),
@@ -130,6 +121,13 @@ fn sub_update_fault(mask: Mask, config: &SubConfig) -> Option<Reason>
     check_sub(config, mask)
 }
 
+/// Whether an item asks for more seconds than a lease may live.
+fn has_long_deadline(items: &[(AckId, u32)]) -> bool
+    ensures { result ≡ list_any has_long_deadline items.now }
+{
+    items.iter().any(|item| MOST_ACK_SECONDS < item.1)
+}
+
 /// The first check that an argument of the command fails.
 pub fn argument_fault(alloc: Global, command: &Command) -> Result<Option<Reason>, OutOfMemory>
     requires { unbuilt command.now ≡ None }
@@ -146,6 +144,10 @@ pub fn argument_fault(alloc: Global, command: &Command) -> Result<Option<Reason>
         },
         Command::Pull { max, .. } if *max == 0 => Ok(Some(Reason::MaxMessages)),
         Command::Acknowledge { ids, .. } if ids.len() == 0 => Ok(Some(Reason::AckIds)),
+        Command::ModifyAckDeadline { items, .. } if items.len() == 0 => Ok(Some(Reason::AckIds)),
+        Command::ModifyAckDeadline { items, .. } if has_long_deadline(items.as_slice()) => {
+            Ok(Some(Reason::AckDeadlineSeconds))
+        }
         _ => Ok(None),
     }
 }

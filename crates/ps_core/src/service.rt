@@ -3,6 +3,7 @@ ghost use Rattle.std.specs.BTreeMap.{get_by_text};
 ghost use Rattle.ps_model.specs.Commands.{is_full};
 ghost use Rattle.ps_model.specs.Step as rules;
 
+mod acknowledging;
 mod applying;
 mod counting;
 mod creating;

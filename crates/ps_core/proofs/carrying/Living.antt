@@ -5,13 +5,12 @@ use Rattle.std.proofs.Math.Bool.{or-false}
 use Rattle.std.proofs.lemmas.Bool.{and_right, false_from_ne_true, false≢true}
 use Rattle.ps_base.proofs.Lists.{each-of-filter, each-then}
 use Rattle.ps_model.specs.declared.mark.Mark.{Mark}
-use Rattle.ps_model.specs.declared.mark.Mark.TheVariants.{Backlog, Leased, Ahead, Done, Gone}
 use Rattle.ps_model.specs.declared.world.MarkRow.{MarkRow}
 use Rattle.ps_model.specs.declared.world.MessageRow.{MessageRow}
 use Rattle.ps_model.specs.declared.world.SnapRow.{SnapRow}
 use Rattle.ps_model.specs.declared.world.World.{World}
 use Rattle.ps_model.specs.Live.{live}
-use Rattle.ps_model.specs.Retention.{caught_up_as, is_held_by, is_within}
+use Rattle.ps_model.specs.Retention.{is_held_by, is_within}
 use Rattle.ps_model.specs.Same.{WorldParts, world_parts, same_world}
 use Rattle.ps_model.specs.Settling.{catch_up, expire, expunge_world, is_wanted, release}
 use Rattle.ps_model.specs.Settling as rules
@@ -21,9 +20,9 @@ use Rattle.ps_model.proofs.SameLemmas.{same-world, world-same}
 use Rattle.ps_tables.specs.Subscriptions.{is_had}
 use Rattle.ps_core.specs.Effects.{let_go, recorded_at}
 use Rattle.ps_core.specs.State.{State, flat_marks, seen}
-use Rattle.ps_core.specs.Steady.{IsPlainMark, IsSteady}
+use Rattle.ps_core.specs.Steady.{IsSteady}
 use Rattle.ps_tables.proofs.lists.Filtered.{filter-all}
-use Rattle.ps_core.proofs.settling.Expunging.{IsPlain, catch_up-rests, expire-rests, marks-each, marks-want, plain-here, plain-steady, release-rests, wants, window-none}
+use Rattle.ps_core.proofs.settling.Expunging.{IsPlain, expire-rests, marks-each, marks-want, plain-steady, release-rests, wants, window-none}
 
 abbrev is_here : MarkRow → Bool
 is_here r = not (is_gone r.mark)
@@ -31,7 +30,7 @@ is_here r = not (is_gone r.mark)
 marks-here : (s : State) → IsPlain s → filter is_here (flat_marks s.subscriptions) ≡ flat_marks s.subscriptions
 marks-here s h =
     filter-all is_here (flat_marks s.subscriptions)
-    (each-then (λ (r : MarkRow). IsPlainMark r.mark) (λ (r : MarkRow). is_here r ≡ true) (flat_marks s.subscriptions) (λ r plain. ap not (plain-here r.mark plain)) (marks-each IsPlainMark s.subscriptions h.marks))
+    (each-then (λ (r : MarkRow). is_gone r.mark ≡ false) (λ (r : MarkRow). is_here r ≡ true) (flat_marks s.subscriptions) (λ r here. ap not here) (marks-each (λ (m : Mark). is_gone m ≡ false) s.subscriptions h.marks))
 
 -- a steady state stands for a world that is all live
 pub live-seen : (s : State) → IsSteady s → live (seen s) ≡ seen s
@@ -42,24 +41,12 @@ live-seen s h = λ i. record (seen s) {
 
 -- ---- expunging
 
-module _ (at : ℕ) (w : World) (s : State) (plain : IsPlain s) (is : live w ≡ seen s) where
+module _ (at : ℕ) (w : World) (s : State) (plain : IsPlain s) (is : live w ≡ seen s) (caught : catch_up w ≡ w) where
   marks-are : filter is_here w.marks ≡ flat_marks s.subscriptions
   marks-are = ap (λ (v : World). v.marks) is
 
-  gone-rests : (m : Mark) → (not (is_gone m) ≡ true → IsPlainMark m) → caught_up_as m ≡ m
-  gone-rests (Backlog failures until last) h = refl
-  gone-rests (Leased failures lease deadline) h = refl
-  gone-rests (Ahead failures) h = absurd (h refl)
-  gone-rests (Done cause) h = refl
-  gone-rests (Gone cause) h = refl
-
-  none-ahead : AllByRecursion (λ (r : MarkRow). caught_up_as r.mark ≡ r.mark) w.marks
-  none-ahead =
-      each-then (λ (r : MarkRow). is_here r ≡ true → IsPlainMark r.mark) (λ (r : MarkRow). caught_up_as r.mark ≡ r.mark) w.marks (λ r h. gone-rests r.mark h)
-      (each-of-filter (λ (r : MarkRow). IsPlainMark r.mark) is_here w.marks (subst (λ (rows : List MarkRow). AllByRecursion (λ (r : MarkRow). IsPlainMark r.mark) rows) (sym marks-are) (marks-each IsPlainMark s.subscriptions plain.marks)))
-
   marks-rest : release at (catch_up (expire at w)) ≡ w
-  marks-rest = release-rests at (catch_up (expire at w)) ∙ ap catch_up (expire-rests at w) ∙ catch_up-rests w none-ahead
+  marks-rest = release-rests at (catch_up (expire at w)) ∙ ap catch_up (expire-rests at w) ∙ caught
 
   wants-here : (number : ℕ) (rows : List MarkRow) → list_any (wants number) rows ≡ list_any (wants number) (filter is_here rows)
   wants-here number [] = refl
@@ -92,10 +79,10 @@ module _ (at : ℕ) (w : World) (s : State) (plain : IsPlain s) (is : live w ≡
       by true e false o rest = rw (e, had r, o) rest
 
 -- the messages go that no subscription has
-pub expunge-live : (at : ℕ) (w : World) (s : State) → IsPlain s → live w ≡ seen s → live (expunge_world at w) ≡ seen (let_go s)
-expunge-live at w s plain is =
-    ap (λ (v : World). live (record v { messages = map (rules.let_go at v) v.messages })) (marks-rest at w s plain is)
-    ∙ (λ i. record (live w) { messages = messages-left at w s plain is w.messages i })
+pub expunge-live : (at : ℕ) (w : World) (s : State) → IsPlain s → live w ≡ seen s → catch_up w ≡ w → live (expunge_world at w) ≡ seen (let_go s)
+expunge-live at w s plain is caught =
+    ap (λ (v : World). live (record v { messages = map (rules.let_go at v) v.messages })) (marks-rest at w s plain is caught)
+    ∙ (λ i. record (live w) { messages = messages-left at w s plain is caught w.messages i })
     ∙ ap (λ (v : World). record v { messages = filter (λ (r : MessageRow). is_had s.subscriptions r.number) v.messages }) is
 
 -- a steady state has nothing to let go
@@ -115,10 +102,6 @@ moves-live s made w h is differs =
     ap world_parts (sym (live-seen s h)) ∙ ap live_parts (same-world (seen s) w same) ∙ ap world_parts is in
     false≢true (sym differs ∙ world-same (seen s) (seen made) parts))
 
--- ---- of a state before its entry is counted
-
-pub let_go-rested : (at : ℕ) (s : State) → IsSteady (recorded_at at s) → let_go s ≡ s
-let_go-rested at s h = λ i. record s { messages = filter-all (λ (m : MessageRow). is_had s.subscriptions m.number) s.messages h.wanted i }
-
-pub plain-recorded : (at : ℕ) (s : State) → IsSteady (recorded_at at s) → IsPlain s
-plain-recorded at s h = let plain = plain-steady (recorded_at at s) h in record { topic_settings = plain.topic_settings; marks = plain.marks }
+-- a state that an entry more makes steady stands for a world that is all live
+pub live-left : (at : ℕ) (made : State) → IsSteady (recorded_at at made) → live (seen made) ≡ seen made
+live-left at made steady = ap (λ (w : World). record w { now = made.now; count = made.count }) (live-seen (recorded_at at made) steady)

@@ -12,7 +12,7 @@ use Rattle.ps_model.specs.Outcomes.{Outcome, Shows, answers, refuses, reply_in}
 use Rattle.ps_base.specs.declared.refusal.Refusal.TheVariants.{AlreadyExists, Exhausted, NotFound}
 use Rattle.ps_model.specs.Live.{live}
 use Rattle.ps_model.specs.Same.{same_world}
-use Rattle.ps_model.specs.Settling.{expunge_world}
+use Rattle.ps_model.specs.Settling.{catch_up, expunge_world}
 use Rattle.ps_model.specs.Step.{finished}
 use Rattle.ps_model.proofs.SameLemmas.{world-same}
 use Rattle.ps_core.specs.declared.service.outcome.Outcome.{Outcome as CarriedOut}
@@ -21,7 +21,7 @@ use Rattle.ps_core.specs.Steady.{IsSteady}
 use Rattle.ps_core.specs.Effects.{let_go, recorded_at}
 use Rattle.ps_core.specs.Carrying.{CanRecord, one_entry_more, IsCarried}
 use Rattle.ps_core.proofs.settling.Ending.{forward-none}
-use Rattle.ps_core.proofs.carrying.Living.{expunge-live, let_go-rested, moves-live, plain-recorded}
+use Rattle.ps_core.proofs.carrying.Living.{expunge-live, live-left, moves-live}
 use Rattle.ps_core.proofs.settling.Expunging.{expunge-seen, IsPlain}
 
 -- a record that isn't full, and no bad argument
@@ -46,23 +46,37 @@ pub finished-seen : (at : ℕ) (w : World) (s : State) (reply : Reply) → IsSte
 finished-seen at w s reply steady = ap (expunge_world at) (forward-none at (seen s)) ∙ expunge-seen at s steady
 
 -- What a command made of the settled world stands for a state but for what is gone; the messages go that no subscription has, and what is left differs.
-pub carried-made : (at : ℕ) (c : Command) (s made : State) (reply : Reply) (w : World) → IsSteady s → IsPlain made → outcome (seen s) at c ≡ answers w reply → live w ≡ seen made
+pub carried-made : (at : ℕ) (c : Command) (s made : State) (reply : Reply) (w : World) → IsSteady s → IsPlain made → outcome (seen s) at c ≡ answers w reply → live w ≡ seen made → catch_up w ≡ w
     → same_world (seen s) (seen (let_go made)) ≡ false → made.count ≡ s.count → IsCarried at c s (recorded_at at (let_go made)) reply true
-carried-made at c s made reply w steady plain is stands moves count =
-    let left : live (finished at (seen s) (answers w reply)) ≡ seen (let_go made) = ap (λ (v : World). live (expunge_world at v)) (forward-none at w) ∙ expunge-live at w made plain stands in
+carried-made at c s made reply w steady plain is stands caught moves count =
+    let left : live (finished at (seen s) (answers w reply)) ≡ seen (let_go made) = ap (λ (v : World). live (expunge_world at v)) (forward-none at w) ∙ expunge-live at w made plain stands caught in
     record {
       told = sym (ap reply_in is);
       moved = ap (λ (o : Outcome). same_world (seen s) (finished at (seen s) o)) is ∙ moves-live s (let_go made) (finished at (seen s) (answers w reply)) steady left moves;
       after = (λ i. record (seen (let_go made)) { now = at; count = count i + 1 }) ∙ ap (one_entry_more at (seen s)) (sym (ap (λ (o : Outcome). live (finished at (seen s) o)) is ∙ left));
     }
 
+-- what a world comes to that stands for a state which is steady with one entry more
+pub finished-made : (at now : ℕ) (w : World) (made : State) (reply : Reply) → IsSteady (recorded_at now made) → finished at w (answers (seen made) reply) ≡ seen made
+finished-made at now w made reply steady =
+    ap (expunge_world at) (forward-none at (seen made)) ∙ ap (λ (v : World). record v { now = made.now; count = made.count }) (expunge-seen at (recorded_at now made) steady)
+
+-- what a command makes is finished, and differs
+pub carried-finished : (at : ℕ) (c : Command) (s made : State) (reply : Reply) (o : Outcome) → IsSteady (recorded_at at made) → outcome (seen s) at c ≡ o → reply ≡ reply_in o → finished at (seen s) o ≡ seen made
+    → same_world (seen s) (seen made) ≡ false → made.count ≡ s.count → IsCarried at c s (recorded_at at made) reply true
+carried-finished at c s made reply o after is told left moves count =
+    let made-left : finished at (seen s) (outcome (seen s) at c) ≡ seen made = ap (finished at (seen s)) is ∙ left in
+    record {
+      told = told ∙ sym (ap reply_in is);
+      moved = ap (same_world (seen s)) made-left ∙ moves;
+      after = (λ i. record (seen made) { now = at; count = count i + 1 }) ∙ ap (one_entry_more at (seen s)) (sym (ap live made-left ∙ live-left at made after));
+    }
+
 -- the same of a command that leaves a steady state
-pub carried-left : (at : ℕ) (c : Command) (s made : State) (reply : Reply) (w : World) → IsSteady s → IsSteady (recorded_at at made) → outcome (seen s) at c ≡ answers w reply → live w ≡ seen made → same_world (seen s) (seen made) ≡ false
+pub carried-left : (at : ℕ) (c : Command) (s made : State) (reply : Reply) (w : World) → IsSteady (recorded_at at made) → outcome (seen s) at c ≡ answers w reply → w ≡ seen made → same_world (seen s) (seen made) ≡ false
     → made.count ≡ s.count → IsCarried at c s (recorded_at at made) reply true
-carried-left at c s made reply w steady after is stands moves count =
-    let same : let_go made ≡ made = let_go-rested at made after in
-    subst (λ (v : State). IsCarried at c s (recorded_at at v) reply true) same
-    (carried-made at c s made reply w steady (plain-recorded at made after) is stands (ap (λ (v : State). same_world (seen s) (seen v)) same ∙ moves) count)
+carried-left at c s made reply w after is stands moves count =
+    carried-finished at c s made reply (answers w reply) after is refl (ap (λ (v : World). finished at (seen s) (answers v reply)) stands ∙ finished-made at at (seen s) made reply after) moves count
 
 -- it left the world as it was
 pub carried-rests : (at : ℕ) (c : Command) (s : State) (reply : Reply) (o : Outcome) → outcome (seen s) at c ≡ o → reply ≡ reply_in o → finished at (seen s) o ≡ seen s → IsCarried at c s s reply false

@@ -51,9 +51,9 @@ pub topic-deleted : (at : ℕ) (name : List ℕ) (row : TopicRow) (s : State) �
     → IsCarried at (DeleteTopic name) s (drop_topic row.number (recorded_at at s)) Empty true
 topic-deleted at name row s can h later is =
     let w : World = record (seen s) { topics = filter (λ (r : TopicRow). not (nat_eq r.number row.number)) s.topics } in
-    carried-left at (DeleteTopic name) s (drop_topic row.number s) Empty w h (dropped-steady row.number (recorded_at at s) later)
+    carried-left at (DeleteTopic name) s (drop_topic row.number s) Empty w (dropped-steady row.number (recorded_at at s) later)
     (outcome-open s at (DeleteTopic name) can.room refl ∙ ap (delete_topic_at (seen s) name) is)
-    (ap (λ (v : World). record v { topics = filter (λ (r : TopicRow). not (nat_eq r.number row.number)) s.topics }) (live-seen s h))
+    refl
     (topic-differs name row s h is) refl
 
 -- ---- a subscription

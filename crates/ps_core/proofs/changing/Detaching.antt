@@ -1,5 +1,5 @@
 -- Detaching a subscription, as the rules say.
-use Rattle.std.proofs.Common.{◌≡◌, ℕ, Bool, true, false, not, nat_eq, List, [], ◌∷◌, ◌++◌, Option, Some, filter, find, map, option_map, unwrap_or, refl, sym, ap, ◌∙◌, subst, if◌then◌else◌}
+use Rattle.std.proofs.Common.{◌≡◌, ◌<◌, ℕ, Bool, true, false, not, nat_eq, List, [], ◌∷◌, ◌++◌, Option, Some, filter, find, map, option_map, unwrap_or, refl, sym, ap, ◌∙◌, subst, arith, if◌then◌else◌}
 use Rattle.std.specs.List.{AllByRecursion}
 use Rattle.std.proofs.lemmas.Bool.{eq-eqb, eqb-true, false≢true, false_from_ne_true}
 use Rattle.ps_base.proofs.Lists.{each-always, each-flat_map, each-found, each-map, found-map, map-rests}
@@ -17,7 +17,8 @@ use Rattle.ps_model.specs.Live.{live}
 use Rattle.ps_model.specs.Outcomes.{answers}
 use Rattle.ps_model.specs.Retention.{lapsed}
 use Rattle.ps_model.specs.Same.{WorldParts, same_world}
-use Rattle.ps_model.specs.Slots.{is_gone}
+use Rattle.ps_model.specs.Settling.{catch_up}
+use Rattle.ps_model.specs.Slots.{is_ahead, is_gone, remark, remarked}
 use Rattle.ps_model.specs.Subscriptions.{detach_at}
 use Rattle.ps_model.specs.Worlds.{put_sub, remark_at, remark_row, row_of, slot_of}
 use Rattle.ps_model.proofs.SameLemmas.{same-world}
@@ -28,14 +29,17 @@ use Rattle.ps_tables.specs.Numbers.{changed_at}
 use Rattle.ps_tables.specs.Subscriptions.{detach_subscription, number_of}
 use Rattle.ps_core.specs.Effects.{let_go, recorded_at}
 use Rattle.ps_tables.specs.Members.{has_name}
-use Rattle.ps_core.specs.State.{State, flat_marks, seen, sub_row}
-use Rattle.ps_core.specs.Steady.{IsPlainMark, IsSteady, IsSteadySubscription}
+use Rattle.ps_core.specs.State.{State, flat_marks, seen, slots_in, sub_row}
+use Rattle.ps_core.specs.Steady.{IsCaughtUp, IsSteady, IsSteadySubscription}
 use Rattle.ps_core.proofs.carrying.Kept.{find-in-map, sub-named-seen}
 use Rattle.ps_tables.proofs.numbers.Changes.{found-by-number, keeps-numbers, put-changes, same-number, unchanged}
 use Rattle.ps_core.proofs.carrying.Living.{live-seen}
 use Rattle.ps_core.proofs.carrying.Outcomes.{carried-made, carried-rests, finished-seen, outcome-open}
+use Rattle.ps_core.proofs.marks.Flat.{Joined, flat-marked}
 use Rattle.ps_core.proofs.marks.OnePlace.{subs-put}
-use Rattle.ps_core.proofs.settling.Expunging.{IsPlain, plain-here, plain-steady}
+use Rattle.ps_core.proofs.settling.CaughtUp.{none-ahead}
+use Rattle.ps_tables.proofs.lists.Ordered.{ordered-map}
+use Rattle.ps_core.proofs.settling.Expunging.{IsPlain, catch_up-seen, caught-steady, plain-steady, rows-steady}
 
 -- ---- marks
 
@@ -57,13 +61,13 @@ marks-own : (messages : List MessageRow) (n : ℕ) (ss : List Slot) (rest : List
 marks-own messages n [] rest = refl
 marks-own messages n (s ∷ ss) rest = rw (eq-eqb n n refl, gone-lapsed s.mark) (marks-own messages n ss rest)
 
-marks-other : (messages : List MessageRow) (n k : ℕ) (ss : List Slot) (rest : List MarkRow) → nat_eq k n ≡ false → AllByRecursion (λ (slot : Slot). IsPlainMark slot.mark) ss
+marks-other : (messages : List MessageRow) (n k : ℕ) (ss : List Slot) (rest : List MarkRow) → nat_eq k n ≡ false → AllByRecursion (λ (slot : Slot). is_gone slot.mark ≡ false) ss
     → filter is_here (map (lapsed_at messages n) (map (row_of k) ss ++ rest)) ≡ map (row_of k) ss ++ filter is_here (map (lapsed_at messages n) rest)
 marks-other messages n k [] rest other plain = refl
-marks-other messages n k (s ∷ ss) rest other plain = rw (other, plain-here s.mark plain.0) (ap (λ (rows : List MarkRow). row_of k s ∷ rows) (marks-other messages n k ss rest other plain.1))
+marks-other messages n k (s ∷ ss) rest other plain = rw (other, plain.0) (ap (λ (rows : List MarkRow). row_of k s ∷ rows) (marks-other messages n k ss rest other plain.1))
 
 -- the marks of the others are left
-marks-left : (messages : List MessageRow) (n : ℕ) (xs : List KeptSubscription) → AllByRecursion (λ (x : KeptSubscription). AllByRecursion (λ (slot : Slot). IsPlainMark slot.mark) x.sub.slots) xs
+marks-left : (messages : List MessageRow) (n : ℕ) (xs : List KeptSubscription) → AllByRecursion (λ (x : KeptSubscription). AllByRecursion (λ (slot : Slot). is_gone slot.mark ≡ false) x.sub.slots) xs
     → filter is_here (map (lapsed_at messages n) (flat_marks xs)) ≡ flat_marks (changed_at number_of n detach_subscription xs)
 marks-left messages n [] plain = refl
 marks-left messages n (x ∷ xs) plain = by (nat_eq x.number n) refl (marks-left messages n xs plain.1)
@@ -104,13 +108,62 @@ module _ (at : ℕ) (name : List ℕ) (s : State) (can : CanRecord at s) (x : Ke
   plain-made : IsPlain made
   plain-made = record {
     topic_settings = h.topic_settings;
-    marks = each-map (λ (y : KeptSubscription). AllByRecursion (λ (slot : Slot). IsPlainMark slot.mark) y.sub.slots) (λ (y : KeptSubscription). AllByRecursion (λ (slot : Slot). IsPlainMark slot.mark) y.sub.slots)
+    marks = each-map (λ (y : KeptSubscription). AllByRecursion (λ (slot : Slot). is_gone slot.mark ≡ false) y.sub.slots) (λ (y : KeptSubscription). AllByRecursion (λ (slot : Slot). is_gone slot.mark ≡ false) y.sub.slots)
         (λ y. if nat_eq y.number x.number then detach_subscription y else y) s.subscriptions (λ y p. one y (nat_eq y.number x.number) p) (plain-steady s h).marks;
   }
     where
-      one : (y : KeptSubscription) (b : Bool) → AllByRecursion (λ (slot : Slot). IsPlainMark slot.mark) y.sub.slots → AllByRecursion (λ (slot : Slot). IsPlainMark slot.mark) (if b then detach_subscription y else y).sub.slots
+      one : (y : KeptSubscription) (b : Bool) → AllByRecursion (λ (slot : Slot). is_gone slot.mark ≡ false) y.sub.slots → AllByRecursion (λ (slot : Slot). is_gone slot.mark ≡ false) (if b then detach_subscription y else y).sub.slots
       one y true p = tt
       one y false p = p
+
+  -- the state with the marks that are gone
+  abbrev lapse : KeptSubscription → KeptSubscription
+  lapse y = record y { detached = true; sub = record y.sub { slots = remarked (λ (slot : Slot). lapsed slot.mark) y.sub.slots } }
+
+  abbrev lapsing : State
+  lapsing = change_subscription x.number lapse s
+
+  lapses-seen : lapses ≡ seen lapsing
+  lapses-seen =
+      let subs = subs-put (lapse x) s.subscriptions ∙ ap (map sub_row) (put-changes number_of x.number lapse x s.subscriptions h.subscriptions here) in
+      let marks = flat-marked number_of slots_in s.messages x.number (λ (slot : Slot). lapsed slot.mark) lapse (λ y. refl) (λ y. refl) s.subscriptions (rows-steady s h) in
+      λ i. record (seen s) { subs = subs i; marks = marks i }
+
+  ahead-lapsed : (m : Mark) → is_ahead (lapsed m) ≡ false
+  ahead-lapsed (Backlog failures until last) = refl
+  ahead-lapsed (Leased failures lease deadline) = refl
+  ahead-lapsed (Ahead failures) = refl
+  ahead-lapsed (Done cause) = refl
+  ahead-lapsed (Gone cause) = refl
+
+  lapsed-caught : (ordering : Bool) (slots : List Slot) → IsCaughtUp ordering (remarked (λ (slot : Slot). lapsed slot.mark) slots)
+  lapsed-caught ordering slots =
+      none-ahead ordering (remarked (λ (slot : Slot). lapsed slot.mark) slots)
+      (each-map (λ (slot : Slot). Unit {0}) (λ (slot : Slot). is_ahead slot.mark ≡ false) (λ (slot : Slot). remark slot (lapsed slot.mark)) slots (λ slot _. ahead-lapsed slot.mark) (each-always (λ (slot : Slot). Unit {0}) slots (λ slot. tt)))
+
+  -- what is gone isn't ahead, and the others have caught up
+  caught : catch_up lapses ≡ lapses
+  caught =
+      let put : KeptSubscription → KeptSubscription = λ y. if nat_eq y.number x.number then lapse y else y in
+      ap catch_up lapses-seen
+      ∙ catch_up-seen lapsing
+      (ordered-map (λ (a b : KeptSubscription). a.number < b.number) (λ (a b : KeptSubscription). a.number < b.number) put s.subscriptions (λ a b up. omega (arith, up, number a (nat_eq a.number x.number), number b (nat_eq b.number x.number))) h.subscriptions)
+      (each-map (λ (y : KeptSubscription). Joined s.messages y.number y.sub.slots) (λ (y : KeptSubscription). Joined s.messages y.number y.sub.slots) put s.subscriptions (λ y rows. joined y (nat_eq y.number x.number) rows) (rows-steady s h))
+      (each-map (λ (y : KeptSubscription). IsCaughtUp y.sub.config.ordering y.sub.slots) (λ (y : KeptSubscription). IsCaughtUp y.sub.config.ordering y.sub.slots) put s.subscriptions (λ y up. caught-one y (nat_eq y.number x.number) up) (caught-steady s h))
+      ∙ sym lapses-seen
+    where
+      number : (y : KeptSubscription) (b : Bool) → (if b then lapse y else y).number ≡ y.number
+      number y true = refl
+      number y false = refl
+
+      joined : (y : KeptSubscription) (b : Bool) → Joined s.messages y.number y.sub.slots → Joined s.messages (if b then lapse y else y).number (if b then lapse y else y).sub.slots
+      joined y true rows =
+          each-map (λ (slot : Slot). slot_of s.messages (row_of y.number slot) ≡ slot) (λ (slot : Slot). slot_of s.messages (row_of y.number slot) ≡ slot) (λ (slot : Slot). remark slot (lapsed slot.mark)) y.sub.slots (λ slot row. ap (λ (e : Slot). remark e (lapsed slot.mark)) row) rows
+      joined y false rows = rows
+
+      caught-one : (y : KeptSubscription) (b : Bool) → IsCaughtUp y.sub.config.ordering y.sub.slots → IsCaughtUp (if b then lapse y else y).sub.config.ordering (if b then lapse y else y).sub.slots
+      caught-one y true up = lapsed-caught y.sub.config.ordering y.sub.slots
+      caught-one y false up = up
 
   -- the row of the subscription says that it is detached
   differs : x.detached ≡ false → same_world (seen s) (seen (let_go made)) ≡ false
@@ -128,7 +181,7 @@ module _ (at : ℕ) (name : List ℕ) (s : State) (can : CanRecord at s) (x : Ke
       false≢true (sym attached ∙ flag))
 
   pub sub-detached : x.detached ≡ false → IsCarried at (Detach name) s (let_go (change_subscription x.number detach_subscription (recorded_at at s))) Empty true
-  sub-detached attached = carried-made at (Detach name) s made Empty lapses h plain-made ruled stands (differs attached) refl
+  sub-detached attached = carried-made at (Detach name) s made Empty lapses h plain-made ruled stands caught (differs attached) refl
 
   -- detached already, it has nothing
   none-there : x.detached ≡ true → x.sub.slots ≡ []

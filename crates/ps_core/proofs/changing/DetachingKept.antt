@@ -99,6 +99,7 @@ module _ (now count next_topic next_sub next_message next_end : ℕ) (tables aft
     leases = h.leases;
     slots = tt;
     joined = tt;
+    caught_up = tt;
     detached = λ e. refl;
     topic = h.topic;
   }

@@ -15,6 +15,7 @@ use Rattle.ps_model.specs.declared.world.World.{World}
 use Rattle.ps_model.specs.Failing.{is_due}
 use Rattle.ps_model.specs.Live.{live}
 use Rattle.ps_model.specs.Same.{WorldParts, same_world}
+use Rattle.ps_model.specs.Settling.{catch_up}
 use Rattle.ps_model.specs.Slots.{is_gone}
 use Rattle.ps_model.specs.Sound.{Ordered}
 use Rattle.ps_model.specs.Subscriptions.{delete_sub_at}
@@ -33,7 +34,7 @@ use Rattle.ps_tables.specs.Numbers.{IsNumbered}
 use Rattle.ps_tables.specs.Members.{has_name, holders_of, numbered}
 use Rattle.ps_core.specs.State.{State, flat_marks, seen, sub_row}
 use Rattle.ps_tables.specs.Subscriptions.{number_of}
-use Rattle.ps_core.specs.Steady.{IsPlainMark, IsSteady, IsSteadySubscription}
+use Rattle.ps_core.specs.Steady.{IsCaughtUp, IsSteady, IsSteadySubscription}
 use Rattle.ps_tables.specs.TableEdits.{LeavesTopic, RemovesName}
 use Rattle.ps_tables.proofs.lists.Filtered.{filter-mapped}
 use Rattle.ps_tables.proofs.lists.Ordered.{ordered-filter}
@@ -48,7 +49,8 @@ use Rattle.ps_core.proofs.changing.Lists.{filter-swap, found-dropped}
 use Rattle.ps_core.proofs.changing.Members.{IsAlone, all-alone, attached-dropped, name-is}
 use Rattle.ps_core.proofs.changing.Times.{holders-dropped, times-once}
 use Rattle.ps_tables.proofs.numbers.Numbered.{numbered-remove-keys, numbered-removed}
-use Rattle.ps_core.proofs.settling.Expunging.{IsPlain, plain-steady}
+use Rattle.ps_core.proofs.marks.Flat.{Joined}
+use Rattle.ps_core.proofs.settling.Expunging.{IsPlain, catch_up-seen, caught-steady, plain-steady, rows-steady}
 
 -- those of another number
 abbrev pub others_of : ℕ → List KeptSubscription → List KeptSubscription
@@ -173,12 +175,24 @@ module _ (at : ℕ) (name : List ℕ) (s : State) (x : KeptSubscription) (can : 
           filter-swap (λ (r : MarkRow). not (is_gone r.mark)) (is_other x.number) (flat_marks s.subscriptions) ∙ ap (λ (v : World). filter (is_other x.number) v.marks) (live-seen s h)
           ∙ marks-dropped x.number s.subscriptions
 
+  -- the others have caught up
+  caught : catch_up ruled ≡ ruled
+  caught =
+      let stays : KeptSubscription → Bool = λ y. not (nat_eq y.number x.number) in
+      let subs = filter-mapped sub_row (λ (r : SubRow). not (nat_eq r.number x.number)) s.subscriptions in
+      let is-seen : ruled ≡ seen made = λ i. record (seen s) { subs = subs i; marks = marks-dropped x.number s.subscriptions i } in
+      ap catch_up is-seen
+      ∙ catch_up-seen made (ordered-filter (λ (a b : KeptSubscription). a.number < b.number) stays s.subscriptions h.subscriptions)
+      (each-left (λ (y : KeptSubscription). Joined s.messages y.number y.sub.slots) stays s.subscriptions (rows-steady s h))
+      (each-left (λ (y : KeptSubscription). IsCaughtUp y.sub.config.ordering y.sub.slots) stays s.subscriptions (caught-steady s h))
+      ∙ sym is-seen
+
   plain : IsPlain made
   plain =
       let was : IsPlain s = plain-steady s h in
       record {
         topic_settings = was.topic_settings;
-        marks = each-left (λ (y : KeptSubscription). AllByRecursion (λ (slot : Slot). IsPlainMark slot.mark) y.sub.slots) (λ (y : KeptSubscription). not (nat_eq y.number x.number)) s.subscriptions was.marks;
+        marks = each-left (λ (y : KeptSubscription). AllByRecursion (λ (slot : Slot). is_gone slot.mark ≡ false) y.sub.slots) (λ (y : KeptSubscription). not (nat_eq y.number x.number)) s.subscriptions was.marks;
       }
 
   differs : same_world (seen s) (seen (drop_subscription x.number s)) ≡ false
@@ -195,4 +209,4 @@ module _ (at : ℕ) (name : List ℕ) (s : State) (x : KeptSubscription) (can : 
   subscription-dropped =
       carried-made at (DeleteSubscription name) s made Empty ruled h plain
       (outcome-open s at (DeleteSubscription name) can.room refl ∙ ap (delete_sub_at (seen s) name) (sub-named-seen s name ∙ ap (option_map sub_row) is))
-      live-ruled differs refl
+      live-ruled caught differs refl

@@ -78,7 +78,7 @@ module _ (s : State) (ys : List KeptSubscription) where
         ap (λ (o : Option MessageRow). slot_with (unwrap_or o (no_message slot.item.number)) slot) (found-kept (is_had ys) slot.item.number s.messages had) ∙ j.row;
     number = j.number;
     publish = j.publish;
-    plain = j.plain;
+    here = j.here;
   }
 
   steady-left : (x : KeptSubscription) → AreHad ys x → IsSteadySubscription s x → IsSteadySubscription (left_with ys s) x
@@ -88,6 +88,7 @@ module _ (s : State) (ys : List KeptSubscription) where
     leases = h.leases;
     slots = h.slots;
     joined = joins x.sub.slots had h.joined;
+    caught_up = h.caught_up;
     detached = h.detached;
     topic = h.topic;
   }

@@ -28,17 +28,13 @@ topic-built mask old new masked built =
 sub-built : (mask : Mask) (old new : SubConfig) → unbuilt_sub_mask mask ≡ None → unbuilt_sub_setting old ≡ None → unbuilt_sub_setting (masked_sub mask old new) ≡ None
 sub-built mask old new masked built =
     let dead_letter = first _ _ _ masked in
-    let exactly_once = first _ _ _ dead_letter.1 in
-    let retention = first _ _ _ exactly_once.1 in
+    let retention = first _ _ _ dead_letter.1 in
     let push = first _ _ _ retention.1 in
     let retain_acked = first _ _ _ push.1 in
-    let retry = first _ _ _ retain_acked.1 in
     (λ i. unbuilt_sub_setting (record old {
       dead_letter = if dead_letter.0 i then new.dead_letter else old.dead_letter;
-      exactly_once = if exactly_once.0 i then new.exactly_once else old.exactly_once;
       retention = if retention.0 i then new.retention else old.retention;
       retain_acked = if retain_acked.0 i then new.retain_acked else old.retain_acked;
-      retry = if retry.0 i then new.retry else old.retry;
     })) ∙ built
 
 -- the dead-letter policy isn't masked

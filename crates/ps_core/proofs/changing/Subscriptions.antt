@@ -16,7 +16,7 @@ use Rattle.ps_tables.specs.Numbers.{changed_at, IsNumbered}
 use Rattle.ps_tables.specs.Subscriptions.{filter_of, is_had, number_of}
 use Rattle.ps_core.specs.Keeping.{IsKept, state_of, the_message, the_row}
 use Rattle.ps_core.specs.State.{State}
-use Rattle.ps_core.specs.Steady.{HasGoodSettings, IsJoined, IsSteady, IsSteadySubscription}
+use Rattle.ps_core.specs.Steady.{HasGoodSettings, IsCaughtUp, IsJoined, IsSteady, IsSteadySubscription}
 use Rattle.ps_core.proofs.carrying.Kept.{IsSameHolder, kept-changed}
 use Rattle.ps_tables.proofs.lists.Ordered.{ordered-map}
 
@@ -50,7 +50,7 @@ module _ (n : ℕ) (config : SubConfig) where
   joined-stays s xs x y number slots h =
       subst (λ (ss : List Slot). AllByRecursion (IsJoined (record s { subscriptions = xs }) y) ss) (sym slots)
       (each-then (IsJoined s x) (IsJoined (record s { subscriptions = xs }) y) x.sub.slots
-      (λ slot j. record { row = subst (λ (k : ℕ). slot_of s.messages (row_of k slot) ≡ slot) (sym number) j.row; number = j.number; publish = j.publish; plain = j.plain }) h)
+      (λ slot j. record { row = subst (λ (k : ℕ). slot_of s.messages (row_of k slot) ≡ slot) (sym number) j.row; number = j.number; publish = j.publish; here = j.here }) h)
 
   one-steady : (s : State) (xs : List KeptSubscription) → HasGoodSettings config → (x : KeptSubscription) → (nat_eq x.number n ≡ true → KeepsRest config x.sub.config) → IsSteadySubscription s x → IsSteadySubscription (record s { subscriptions = xs }) (put x)
   one-steady s xs good x rest h = by (nat_eq x.number n) rest
@@ -62,6 +62,7 @@ module _ (n : ℕ) (config : SubConfig) where
         leases = h.leases;
         slots = h.slots;
         joined = joined-stays s xs x (with_settings config x) refl refl h.joined;
+        caught_up = subst (λ (ordering : Bool). IsCaughtUp ordering x.sub.slots) (sym (rest refl).ordering) h.caught_up;
         detached = h.detached;
         topic = h.topic;
       }
@@ -71,6 +72,7 @@ module _ (n : ℕ) (config : SubConfig) where
         leases = h.leases;
         slots = h.slots;
         joined = joined-stays s xs x x refl refl h.joined;
+        caught_up = h.caught_up;
         detached = h.detached;
         topic = h.topic;
       }

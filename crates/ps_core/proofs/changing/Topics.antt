@@ -36,7 +36,8 @@ subscription-stays s topics x h = record {
   filter = h.filter;
   leases = h.leases;
   slots = h.slots;
-  joined = each-then (IsJoined s x) (IsJoined (record s { topics = topics }) x) x.sub.slots (λ slot j. record { row = j.row; number = j.number; publish = j.publish; plain = j.plain }) h.joined;
+  joined = each-then (IsJoined s x) (IsJoined (record s { topics = topics }) x) x.sub.slots (λ slot j. record { row = j.row; number = j.number; publish = j.publish; here = j.here }) h.joined;
+  caught_up = h.caught_up;
   detached = h.detached;
   topic = h.topic;
 }

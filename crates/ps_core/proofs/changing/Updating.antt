@@ -76,9 +76,9 @@ module _ (at : ℕ) (name : List ℕ) (mask : Mask) (config : TopicConfig) (s : 
     pub topic-changed : IsSteady (change_topic row.number (with_config made) (recorded_at at s)) → same_topic_config made row.config ≡ false
         → IsCarried at (UpdateTopic name mask config) s (change_topic row.number (with_config made) (recorded_at at s)) (Topic (topic_shown (with_config made row))) true
     topic-changed later other =
-        carried-left at (UpdateTopic name mask config) s (change_topic row.number (with_config made) s) (Topic (topic_shown (with_config made row))) (put_topic (with_config made row) (seen s)) h
+        carried-left at (UpdateTopic name mask config) s (change_topic row.number (with_config made) s) (Topic (topic_shown (with_config made row))) (put_topic (with_config made row) (seen s))
         later ruled
-        ((λ i. record (live-seen s h i) { topics = puts i })) (differs other) refl
+        ((λ i. record (seen s) { topics = puts i })) (differs other) refl
 
 -- the topic that a look-up by the number of the name gives
 pub topic-looked : (s self : State) (next_end : ℕ) (tables : Tables) → IsKept s next_end tables → s.topics ≡ map the_row (values tables.topics) → s ≡ self → (text name : List ℕ) → text ≡ name

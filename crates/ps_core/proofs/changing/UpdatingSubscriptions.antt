@@ -111,11 +111,8 @@ module _ (at : ℕ) (name : List ℕ) (mask : Mask) (config : SubConfig) (s : St
     pub sub-changed : IsSteady (change_subscription x.number (with_settings made) (recorded_at at s)) → same_sub_config made x.sub.config ≡ false
         → IsCarried at (UpdateSubscription name mask config) s (change_subscription x.number (with_settings made) (recorded_at at s)) (Subscription (sub_shown (seen s) (sub_row changed))) true
     sub-changed later other =
-        carried-left at (UpdateSubscription name mask config) s (change_subscription x.number (with_settings made) s) (Subscription (sub_shown (seen s) (sub_row changed))) (put_sub (sub_row changed) (seen s)) h
-        later ruled (λ i. record (live-seen s h i) { subs = puts i; marks = live-marks i }) (differs other) refl
-      where
-        live-marks : filter (λ (r : MarkRow). not (is_gone r.mark)) (flat_marks s.subscriptions) ≡ flat_marks (changed_at number_of x.number (with_settings made) s.subscriptions)
-        live-marks = ap (λ (v : World). v.marks) (live-seen s h) ∙ sym (marks-stay x.number made s.subscriptions)
+        carried-left at (UpdateSubscription name mask config) s (change_subscription x.number (with_settings made) s) (Subscription (sub_shown (seen s) (sub_row changed))) (put_sub (sub_row changed) (seen s))
+        later ruled (λ i. record (seen s) { subs = puts i; marks = sym (marks-stay x.number made s.subscriptions) i }) (differs other) refl
 
 -- the subscription that a look-up by the number of the name gives
 pub sub-looked : (s self : State) (next_end : ℕ) (tables : Tables) → IsKept s next_end tables → s.subscriptions ≡ values tables.subscriptions → s ≡ self → (text name : List ℕ) → text ≡ name

@@ -52,11 +52,8 @@ first-none ((false, name) ∷ tests) none = (refl, first-none tests none)
 -- what settings are without those that aren't built
 pub record IsPlainly (config : SubConfig) : Type 0 where
   pub dead_letter : config.dead_letter ≡ None
-  pub exactly_once : config.exactly_once ≡ false
-  pub ordering : config.ordering ≡ false
-  pub retry : config.retry ≡ None
 
 pub plainly : (config : SubConfig) → unbuilt_sub_setting config ≡ None → IsPlainly config
 plainly config built =
     let each = first-none (sub_settings config) built in
-    record { dead_letter = none-of config.dead_letter each.0; exactly_once = each.1.0; ordering = each.1.1.0; retry = none-of config.retry each.1.1.1.1.1.0 }
+    record { dead_letter = none-of config.dead_letter each.0 }

@@ -61,7 +61,8 @@ topic-steady name config s spelled h few built new =
       filter = own.filter;
       leases = own.leases;
       slots = own.slots;
-      joined = each-then (IsJoined s x) (IsJoined (add_topic name config s) x) x.sub.slots (λ slot j. record { row = j.row; number = j.number; publish = j.publish; plain = j.plain }) own.joined;
+      joined = each-then (IsJoined s x) (IsJoined (add_topic name config s) x) x.sub.slots (λ slot j. record { row = j.row; number = j.number; publish = j.publish; here = j.here }) own.joined;
+      caught_up = own.caught_up;
       detached = own.detached;
       topic = omega (arith, own.topic);
     }
@@ -92,7 +93,7 @@ subscription-steady name topic config s spelled h few there good new =
       subs_few = omega arith;
       each =
           each-append (IsSteadySubscription made) s.subscriptions (x ∷ []) (each-then (IsSteadySubscription s) (IsSteadySubscription made) s.subscriptions stays h.each)
-          (record { settings = good; filter = refl; leases = omega arith; slots = tt; joined = tt; detached = λ e. refl; topic = there }, tt);
+          (record { settings = good; filter = refl; leases = omega arith; slots = tt; joined = tt; caught_up = tt; detached = λ e. refl; topic = there }, tt);
       messages = h.messages;
       messages_below = h.messages_below;
       messages_few = h.messages_few;
@@ -107,7 +108,8 @@ subscription-steady name topic config s spelled h few there good new =
       filter = own.filter;
       leases = own.leases;
       slots = own.slots;
-      joined = each-then (IsJoined s y) (IsJoined (add_subscription name topic config s) y) y.sub.slots (λ slot j. record { row = j.row; number = j.number; publish = j.publish; plain = j.plain }) own.joined;
+      joined = each-then (IsJoined s y) (IsJoined (add_subscription name topic config s) y) y.sub.slots (λ slot j. record { row = j.row; number = j.number; publish = j.publish; here = j.here }) own.joined;
+      caught_up = own.caught_up;
       detached = own.detached;
       topic = own.topic;
     }

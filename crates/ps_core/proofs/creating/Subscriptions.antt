@@ -34,7 +34,6 @@ use Rattle.ps_core.specs.Steady.{HasGoodSettings, IsSteady}
 use Rattle.ps_core.proofs.carrying.Kept.{sub-named-seen}
 use Rattle.ps_core.proofs.carrying.Outcomes.{carried-left, carried-shown, outcome-open}
 use Rattle.ps_core.proofs.creating.Settings.{no-dead-letter}
-use Rattle.ps_core.proofs.creating.Topics.{live-recorded}
 
 -- no message of the topic is in its window
 retained-none : (at number : ℕ) (config : SubConfig) (rows : List MessageRow)
@@ -105,7 +104,7 @@ pub sub-made : (at : ℕ) (name topic : List ℕ) (config : SubConfig) (s : Stat
 sub-made at name topic config s h row steady room good there window new =
     let made : State = add_subscription name row.number config s in
     let reply = Subscription (sub_shown (seen s) (sub_row (new_subscription s.next_sub name row.number config))) in
-    carried-left at (CreateSubscription name topic config) s made reply (seen made) h steady
+    carried-left at (CreateSubscription name topic config) s made reply (seen made) steady
     (sub-there at name topic config s room good row there ∙ ap (λ (o : Option KeptSubscription). create_sub_named (seen s) at name row config None (option_map sub_row o)) new
     ∙ ap (λ (w : World). answers w reply) (subscription-seen at name row config s window))
-    (live-recorded at made steady) (subscription-moves name row.number config s) refl
+    refl (subscription-moves name row.number config s) refl

@@ -22,12 +22,7 @@ use Rattle.ps_core.specs.Carrying.{IsCarried}
 use Rattle.ps_core.specs.Effects.{recorded_at, add_topic}
 use Rattle.ps_core.specs.State.{State, seen}
 use Rattle.ps_core.specs.Steady.{IsSteady}
-use Rattle.ps_core.proofs.carrying.Living.{live-seen}
 use Rattle.ps_core.proofs.carrying.Outcomes.{carried-left, carried-shown, outcome-open}
-
--- a state that is steady with its entry stands for a world that is all live
-pub live-recorded : (at : ℕ) (made : State) → IsSteady (recorded_at at made) → live (seen made) ≡ seen made
-live-recorded at made steady = ap (λ (w : World). record w { now = made.now; count = made.count }) (live-seen (recorded_at at made) steady)
 
 -- what a function returns is what was carried out
 pub carried-as : (at : ℕ) (c : Command) (s made new : State) (told reply : Reply) (changed : Bool) → new ≡ made → reply ≡ told → changed ≡ true → IsCarried at c s made told true → IsCarried at c s new reply changed
@@ -51,5 +46,5 @@ pub topic-made : (at : ℕ) (name : List ℕ) (config : TopicConfig) (s : State)
     → IsCarried at (CreateTopic name config) s (recorded_at at (add_topic name config s)) (Topic (topic_shown (record { number = s.next_topic; name = name; config = config }))) true
 topic-made at name config s h steady room good new =
     let made : State = add_topic name config s in
-    carried-left at (CreateTopic name config) s made (Topic (topic_shown (record { number = s.next_topic; name = name; config = config }))) (seen made) h steady
-    (topic-open at name config s room good ∙ ap (create_topic_at (seen s) name config) new) (live-recorded at made steady) (topic-moves name config s) refl
+    carried-left at (CreateTopic name config) s made (Topic (topic_shown (record { number = s.next_topic; name = name; config = config }))) (seen made) steady
+    (topic-open at name config s room good ∙ ap (create_topic_at (seen s) name config) new) refl (topic-moves name config s) refl

@@ -1,14 +1,14 @@
 -- One subscription of a state is marked anew.
 use Rattle.ps_names.specs.Names.{is_sub_name}
-use Rattle.std.proofs.Common.{ℕ, ◌≡◌, ◌≢◌, ◌+◌, ◌*◌, ◌^◌, ◌<◌, ◌≤◌, true, false, nat_eq, List, [], ◌∷◌, Some, map, find, refl, sym, ◌∙◌, ap, arith, if◌then◌else◌}
-use Rattle.std.specs.List.{list_any}
+use Rattle.std.proofs.Common.{ℕ, ◌≡◌, ◌≢◌, ◌+◌, ◌*◌, ◌^◌, ◌<◌, ◌≤◌, Bool, true, false, nat_eq, List, [], ◌∷◌, Some, map, find, refl, sym, ◌∙◌, ap, arith, if◌then◌else◌}
+use Rattle.std.specs.List.{AllByRecursion, list_any}
 use Rattle.std.proofs.lemmas.Bool.{cond_both, or_from, or_parts}
 use Rattle.ps_base.specs.Moments.{last_moment}
 use Rattle.ps_message.specs.Limits.{most_messages}
 use Rattle.ps_model.specs.declared.mark.Mark.{Mark}
 use Rattle.ps_model.specs.declared.mark.Slot.{Slot}
 use Rattle.ps_model.specs.declared.world.MessageRow.{MessageRow}
-use Rattle.ps_model.specs.Slots.{remark, remarked}
+use Rattle.ps_model.specs.Slots.{is_gone, remark, remarked}
 use Rattle.ps_model.specs.Sound.{Ordered}
 use Rattle.ps_sub.proofs.SteadyLemmas.{ascending-remarked}
 use Rattle.ps_tables.specs.declared.kept_subscription.KeptSubscription.{KeptSubscription}
@@ -16,8 +16,8 @@ use Rattle.ps_tables.specs.Subscriptions.{is_had}
 use Rattle.ps_core.specs.Effects.{recorded_at}
 use Rattle.ps_core.specs.Settling.{has_due}
 use Rattle.ps_core.specs.State.{State}
-use Rattle.ps_core.specs.Steady.{IsJoined, IsPlainMark, IsSteady, IsSteadySubscription}
-use Rattle.ps_base.proofs.Lists.{each-map, each-then}
+use Rattle.ps_core.specs.Steady.{IsCaughtUp, IsJoined, IsSteady, IsSteadySubscription}
+use Rattle.ps_base.proofs.Lists.{each-both, each-map, each-then}
 use Rattle.ps_core.proofs.carrying.Kept.{IsSameHolder}
 use Rattle.ps_tables.proofs.lists.Ordered.{ordered-map}
 use Rattle.ps_core.proofs.settling.Ending.{had-mapped, has-remarked}
@@ -66,15 +66,15 @@ module _ (n : ℕ) (rule : Slot → Mark) (next : ℕ → ℕ) where
 
   -- ---- a steady state
 
-  module _ (s : State) (h : IsSteady s) (few : s.count < 2 ^ 50) (at : ℕ) (now : s.now ≤ at) (last : at ≤ last_moment) (plain : (slot : Slot) → IsPlainMark slot.mark → IsPlainMark (rule slot)) (more : (lease : ℕ) → lease ≤ most_messages * s.count + 1 → next lease ≤ most_messages * (s.count + 1) + 1) where
+  module _ (s : State) (h : IsSteady s) (few : s.count < 2 ^ 50) (at : ℕ) (now : s.now ≤ at) (last : at ≤ last_moment) (here : (slot : Slot) → is_gone slot.mark ≡ false → is_gone (rule slot) ≡ false) (more : (lease : ℕ) → lease ≤ most_messages * s.count + 1 → next lease ≤ most_messages * (s.count + 1) + 1) where
     abbrev made : State
     made = recorded_at at (record s { subscriptions = map marked_at s.subscriptions })
 
     joined-later : (x : KeptSubscription) (slot : Slot) → IsJoined s x slot → IsJoined made x slot
-    joined-later x slot j = record { row = j.row; number = j.number; publish = omega (arith, j.publish); plain = j.plain }
+    joined-later x slot j = record { row = j.row; number = j.number; publish = omega (arith, j.publish); here = j.here }
 
     joined-marked : (x : KeptSubscription) (slot : Slot) → IsJoined s x slot → IsJoined made (marked x) (remark slot (rule slot))
-    joined-marked x slot j = record { row = ap (λ (e : Slot). remark e (rule slot)) j.row; number = j.number; publish = omega (arith, j.publish); plain = plain slot j.plain }
+    joined-marked x slot j = record { row = ap (λ (e : Slot). remark e (rule slot)) j.row; number = j.number; publish = omega (arith, j.publish); here = here slot j.here }
 
     subscription-later : (x : KeptSubscription) → IsSteadySubscription s x → IsSteadySubscription made x
     subscription-later x own = record {
@@ -83,24 +83,26 @@ module _ (n : ℕ) (rule : Slot → Mark) (next : ℕ → ℕ) where
       leases = omega (arith, own.leases);
       slots = own.slots;
       joined = each-then (IsJoined s x) (IsJoined made x) x.sub.slots (joined-later x) own.joined;
+      caught_up = own.caught_up;
       detached = own.detached;
       topic = own.topic;
     }
 
-    subscription-marked : (x : KeptSubscription) → IsSteadySubscription s x → IsSteadySubscription made (marked x)
-    subscription-marked x own = record {
+    subscription-marked : (x : KeptSubscription) → IsSteadySubscription s x → IsCaughtUp x.sub.config.ordering (remarked rule x.sub.slots) → IsSteadySubscription made (marked x)
+    subscription-marked x own caught = record {
       settings = own.settings;
       filter = own.filter;
       leases = more x.sub.next_lease own.leases;
       slots = ascending-remarked rule x.sub.slots own.slots;
       joined = each-map (IsJoined s x) (IsJoined made (marked x)) (λ (slot : Slot). remark slot (rule slot)) x.sub.slots (joined-marked x) own.joined;
+      caught_up = caught;
       detached = λ e. ap (remarked rule) (own.detached e);
       topic = own.topic;
     }
 
     -- One entry more, at a later moment, which marks the messages of one subscription, keeps a state steady.
-    pub marked-steady : IsSteady made
-    marked-steady = record {
+    pub marked-steady : AllByRecursion (λ (x : KeptSubscription). nat_eq x.number n ≡ true → IsCaughtUp x.sub.config.ordering (remarked rule x.sub.slots)) s.subscriptions → IsSteady made
+    marked-steady caught = record {
       now = last;
       count = omega arith;
       topics = h.topics;
@@ -114,10 +116,15 @@ module _ (n : ℕ) (rule : Slot → Mark) (next : ℕ → ℕ) where
       subscription_names = ordered-map (λ (a b : KeptSubscription). a.name ≢ b.name) (λ (a b : KeptSubscription). a.name ≢ b.name) marked_at s.subscriptions (λ a b differ e. differ (sym (marked-holder a).name ∙ e ∙ (marked-holder b).name)) h.subscription_names;
       subscription_grammar = each-map (λ (x : KeptSubscription). is_sub_name x.name ≡ true) (λ (x : KeptSubscription). is_sub_name x.name ≡ true) marked_at s.subscriptions (λ x is. ap is_sub_name (marked-holder x).name ∙ is) h.subscription_grammar;
       subs_few = omega (arith, h.subs_few);
-      each = each-map (IsSteadySubscription s) (IsSteadySubscription made) marked_at s.subscriptions (λ x own. marked-either (IsSteadySubscription made) x (subscription-marked x own) (subscription-later x own)) h.each;
+      each = each-map (λ (x : KeptSubscription). IsSteadySubscription s x × (nat_eq x.number n ≡ true → IsCaughtUp x.sub.config.ordering (remarked rule x.sub.slots))) (IsSteadySubscription made) marked_at s.subscriptions
+          (λ x own. by x own.0 (nat_eq x.number n) own.1) (each-both (IsSteadySubscription s) (λ (x : KeptSubscription). nat_eq x.number n ≡ true → IsCaughtUp x.sub.config.ordering (remarked rule x.sub.slots)) s.subscriptions h.each caught);
       messages = h.messages;
       messages_below = h.messages_below;
       messages_few = omega (arith, h.messages_few);
       kept = h.kept;
       wanted = each-then (λ (m : MessageRow). is_had s.subscriptions m.number ≡ true) (λ (m : MessageRow). is_had (map marked_at s.subscriptions) m.number ≡ true) s.messages (λ m had. marked-had m.number s.subscriptions ∙ had) h.wanted;
     }
+      where
+        by : (x : KeptSubscription) → IsSteadySubscription s x → (b : Bool) → (b ≡ true → IsCaughtUp x.sub.config.ordering (remarked rule x.sub.slots)) → IsSteadySubscription made (if b then marked x else x)
+        by x own true is = subscription-marked x own (is refl)
+        by x own false is = subscription-later x own

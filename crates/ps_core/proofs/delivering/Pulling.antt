@@ -2,7 +2,7 @@
 use Rattle.std.proofs.Common.{◌≡◌, ◌≢◌, ◌+◌, ◌-◌, ◌*◌, ◌^◌, ◌<◌, ◌≤◌, ◌||◌, ℕ, min, max, nat_cmp, nat_eq, Bool, true, false, List, [], ◌∷◌, Option, Some, None, option_map, unwrap_or, map, find, length, refl, sym, ap, subst, ◌∙◌, arith, if◌then◌else◌}
 use Rattle.std.specs.BTreeMap.{is_at, values}
 use Rattle.std.specs.Map.{set_value, values_of}
-use Rattle.std.proofs.lemmas.Bool.{eqb-false, ne_eqb}
+use Rattle.std.proofs.lemmas.Bool.{eqb-false, false≢true, ne_eqb}
 use Rattle.ps_base.specs.Moments.{last_moment}
 use Rattle.ps_base.specs.declared.reason.Reason.TheVariants.{Detached, MaxMessages}
 use Rattle.ps_base.specs.declared.refusal.Refusal.TheVariants.{FailedPrecondition, NotFound}
@@ -23,7 +23,10 @@ use Rattle.ps_model.specs.Choice.{deliverable, first_of_them, handed, lease_in, 
 use Rattle.ps_model.specs.Commands.{outcome}
 use Rattle.ps_model.specs.Outcomes.{answers}
 use Rattle.ps_model.specs.Pulling.{pull_at, pull_from, received}
+use Rattle.ps_model.specs.Slots.{is_ahead, is_unacked, remarked}
 use Rattle.ps_model.specs.Worlds.{message_at}
+use Rattle.ps_base.proofs.Lists.{each-then}
+use Rattle.ps_sub.proofs.SteadyLemmas.{lending-live}
 use Rattle.ps_tables.specs.declared.kept_subscription.KeptSubscription.{KeptSubscription}
 use Rattle.ps_tables.specs.declared.tables.Tables.{Tables}
 use Rattle.ps_core.specs.Carrying.{IsCarried}
@@ -32,14 +35,15 @@ use Rattle.ps_core.specs.Effects.{given_of, lend_subscription, recorded_at}
 use Rattle.ps_tables.specs.Members.{has_name, numbered}
 use Rattle.ps_core.specs.Keeping.{IsKept}
 use Rattle.ps_core.specs.State.{State, seen, sub_row}
-use Rattle.ps_core.specs.Steady.{IsPlainMark, IsSteady, IsSteadySubscription}
+use Rattle.ps_core.specs.Steady.{IsCaughtUp, IsSteady, IsSteadySubscription}
 use Rattle.ps_core.proofs.carrying.Kept.{IsSubscriptionAt, sub-named-seen, subscription-nowhere}
 use Rattle.ps_core.proofs.carrying.Outcomes.{carried-left, carried-rests, carried-shown, finished-seen, outcome-open}
 use Rattle.ps_core.proofs.checking.Faults.{plainly}
 use Rattle.ps_core.proofs.delivering.Marked.{marked-steady, StandsIn}
 use Rattle.ps_core.proofs.delivering.Moving.{lent-idle, lent-none, pulled-moves}
 use Rattle.ps_core.proofs.delivering.Seen.{lent_at, pulled-leaves, steady-there}
-use Rattle.ps_core.proofs.delivering.Written.{live-left, stands, unwritten, written, written-kept}
+use Rattle.ps_core.proofs.delivering.Written.{stands, unwritten, written, written-kept}
+use Rattle.ps_core.proofs.settling.CaughtUp.{caught_up-kept}
 use Rattle.ps_core.proofs.settling.Settings.{lease-seconds}
 
 pull-good : (name : List ℕ) (most budget : ℕ) (seconds : Option ℕ) → most ≢ 0 → argument_fault (Pull name most budget seconds) ≡ None
@@ -81,9 +85,13 @@ given-few lease most budget (s ∷ ss) = by (nat_eq most 0) refl (nat_eq budget 
     by false e true few = omega arith
     by false e false few = let some : most ≢ 0 = eqb-false most 0 e in omega arith
 
-leased-plain : (deadline : ℕ) (mark : Mark) (lease : Option ℕ) → IsPlainMark mark → IsPlainMark (leased_as deadline mark lease)
-leased-plain deadline mark None h = h
-leased-plain deadline mark (Some lease) h = tt
+leased-unacked : (deadline : ℕ) (mark : Mark) (lease : Option ℕ) → is_unacked mark ≡ true → is_unacked (leased_as deadline mark lease) ≡ true
+leased-unacked deadline mark None h = h
+leased-unacked deadline mark (Some lease) h = refl
+
+leased-ahead : (deadline : ℕ) (mark : Mark) (lease : Option ℕ) → is_ahead (leased_as deadline mark lease) ≡ true → is_ahead mark ≡ true
+leased-ahead deadline mark None h = h
+leased-ahead deadline mark (Some lease) h = absurd (false≢true h)
 
 none-received : (sub : ℕ) (messages : List MessageRow) (given : List Handed) → received_all sub messages given ≡ [] → given ≡ []
 none-received sub messages [] e = refl
@@ -130,12 +138,12 @@ module _ (s : State) (next_end : ℕ) (tables : Tables) (kept : IsKept s next_en
       abbrev made : State
       made = record s { subscriptions = map (lent_at x (at + 1000 * seconds) given) s.subscriptions }
 
-      pull-open : outcome (seen s) at (Pull name most budget lasting) ≡ answers (seen made) (Received false false (received_all x.number s.messages given))
+      pull-open : outcome (seen s) at (Pull name most budget lasting) ≡ answers (seen made) (Received x.sub.config.exactly_once x.sub.config.ordering (received_all x.number s.messages given))
       pull-open =
           let plain = plainly x.sub.config pulled-steady.settings.built in
           let reply : SubConfig → Reply = λ config. Received config.exactly_once config.ordering (map (λ (g : Handed). received (record (sub_row x) { config = config }) g (message_at s.messages g.number)) given) in
-          let shown : reply x.sub.config ≡ Received false false (received_all x.number s.messages given) =
-          λ i. Received (plain.exactly_once i) (plain.ordering i) (map (λ (g : Handed). received (record (sub_row x) { config = record x.sub.config { dead_letter = plain.dead_letter i } }) g (message_at s.messages g.number)) given) in
+          let shown : reply x.sub.config ≡ Received x.sub.config.exactly_once x.sub.config.ordering (received_all x.number s.messages given) =
+          λ i. Received x.sub.config.exactly_once x.sub.config.ordering (map (λ (g : Handed). received (record (sub_row x) { config = record x.sub.config { dead_letter = plain.dead_letter i } }) g (message_at s.messages g.number)) given) in
           pull-from
           ∙ (λ i. pull_from (seen s) at (sub_row x) most budget (sym lasts i) (attached i))
           ∙ pulled-leaves s kept.steady x stays at most budget seconds ∙ ap (answers (seen made)) shown
@@ -144,7 +152,10 @@ module _ (s : State) (next_end : ℕ) (tables : Tables) (kept : IsKept s next_en
       pull-steady few later within =
           let short : length given ≤ most = given-few x.sub.next_lease most budget (deliverable at x.sub.config.ordering x.sub.slots) in
           marked-steady x.number (lent_mark (at + 1000 * seconds) given) (λ lease. lease + length given) s kept.steady room at later within
-          (λ slot plain. leased-plain (at + 1000 * seconds) slot.mark (lease_in given slot.item.number) plain) (λ lease below. omega (arith, below, short))
+          (λ slot here. lending-live (at + 1000 * seconds) given slot here) (λ lease below. omega (arith, below, short))
+          (each-then (IsSteadySubscription s) (λ (y : KeptSubscription). nat_eq y.number x.number ≡ true → IsCaughtUp y.sub.config.ordering (remarked (lent_mark (at + 1000 * seconds) given) y.sub.slots)) s.subscriptions
+          (λ y own _. caught_up-kept y.sub.config.ordering (lent_mark (at + 1000 * seconds) given) (λ slot h. leased-unacked (at + 1000 * seconds) slot.mark (lease_in given slot.item.number) h) (λ slot h. leased-ahead (at + 1000 * seconds) slot.mark (lease_in given slot.item.number) h) y.sub.slots own.caught_up)
+          kept.steady.each)
 
       -- x' is what becomes of it
       module _ (new : List (ℕ × KeptSubscription)) (x' : KeptSubscription) (put : new ≡ set_value (is_at (nat_cmp n)) tables.subscriptions.entries x') (is : x' ≡ lend_subscription (at + 1000 * seconds) given x) where
@@ -160,12 +171,12 @@ module _ (s : State) (next_end : ℕ) (tables : Tables) (kept : IsKept s next_en
 
         -- something goes out
         pub pull-moved : most ≤ 1000 → s.now ≤ at → at ≤ last_moment → (items : List ReceivedMessage) → items ≡ received_all x.number s.messages given → items ≢ []
-            → IsCarried at (Pull name most budget lasting) s (recorded_at at (record s { subscriptions = values_of new })) (Received false false items) true
+            → IsCarried at (Pull name most budget lasting) s (recorded_at at (record s { subscriptions = values_of new })) (Received x.sub.config.exactly_once x.sub.config.ordering items) true
         pull-moved few later within items told went =
-            let reply : Reply = Received false false items in
+            let reply : Reply = Received x.sub.config.exactly_once x.sub.config.ordering items in
             let steady : IsSteady (recorded_at at made) = pull-steady few later within in
             subst (λ (xs : List KeptSubscription). IsCarried at (Pull name most budget lasting) s (recorded_at at (record s { subscriptions = xs })) reply true) (sym pull-written)
-            (carried-left at (Pull name most budget lasting) s made reply (seen made) kept.steady steady (pull-open ∙ ap (λ (shown : List ReceivedMessage). answers (seen made) (Received false false shown)) (sym told)) (live-left at made steady)
+            (carried-left at (Pull name most budget lasting) s made reply (seen made) steady (pull-open ∙ ap (λ (shown : List ReceivedMessage). answers (seen made) (Received x.sub.config.exactly_once x.sub.config.ordering shown)) (sym told)) refl
             (pulled-moves s kept.steady x stays (at + 1000 * seconds) given (λ none. went (told ∙ ap (received_all x.number s.messages) none))) refl)
 
         -- nothing goes out
@@ -174,8 +185,8 @@ module _ (s : State) (next_end : ℕ) (tables : Tables) (kept : IsKept s next_en
             unwritten s next_end tables kept own name n x there new x' put
             (is ∙ ap (λ (g : List Handed). lend_subscription (at + 1000 * seconds) g x) (none-received x.number s.messages given none) ∙ lent-none (at + 1000 * seconds) x)
 
-        pub pull-rested : (items : List ReceivedMessage) → items ≡ received_all x.number s.messages given → items ≡ [] → IsCarried at (Pull name most budget lasting) s s (Received false false items) false
+        pub pull-rested : (items : List ReceivedMessage) → items ≡ received_all x.number s.messages given → items ≡ [] → IsCarried at (Pull name most budget lasting) s s (Received x.sub.config.exactly_once x.sub.config.ordering items) false
         pull-rested items told none =
-            let reply : Reply = Received false false items in
+            let reply : Reply = Received x.sub.config.exactly_once x.sub.config.ordering items in
             let rests : made.subscriptions ≡ s.subscriptions = sym pull-written ∙ ap values_of (pull-rests (sym told ∙ none)) ∙ sym own in
-            carried-rests at (Pull name most budget lasting) s reply (answers (seen s) reply) (pull-open ∙ λ i. answers (seen (record s { subscriptions = rests i })) (Received false false (sym told i))) refl (finished-seen at (seen s) s reply kept.steady)
+            carried-rests at (Pull name most budget lasting) s reply (answers (seen s) reply) (pull-open ∙ λ i. answers (seen (record s { subscriptions = rests i })) (Received x.sub.config.exactly_once x.sub.config.ordering (sym told i))) refl (finished-seen at (seen s) s reply kept.steady)

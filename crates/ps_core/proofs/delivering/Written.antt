@@ -6,8 +6,6 @@ use Rattle.std.specs.Map.{lookup, set_value, values_of}
 use Rattle.std.proofs.lemmas.List.{map-id}
 use Rattle.ps_model.specs.declared.mark.Mark.{Mark}
 use Rattle.ps_model.specs.declared.mark.Slot.{Slot}
-use Rattle.ps_model.specs.declared.world.World.{World}
-use Rattle.ps_model.specs.Live.{live}
 use Rattle.ps_model.specs.Sound.{Ordered}
 use Rattle.ps_tables.specs.declared.kept_subscription.KeptSubscription.{KeptSubscription}
 use Rattle.ps_tables.specs.declared.name_index.NameIndex.{NameIndex}
@@ -23,7 +21,6 @@ use Rattle.ps_core.specs.Steady.{IsSteady}
 use Rattle.ps_base.proofs.Lists.{each-always}
 use Rattle.ps_tables.proofs.numbers.Changes.{found-by-number}
 use Rattle.ps_core.proofs.carrying.Kept.{IsSameHolder, IsSubscriptionAt, kept-changed, subscription-there}
-use Rattle.ps_core.proofs.carrying.Living.{live-seen}
 use Rattle.ps_core.proofs.delivering.Marked.{marked, marked_at, marked-holder, marked-put, StandsIn}
 use Rattle.ps_tables.proofs.numbers.Numbered.{numbered-put, numbered-put-keys}
 
@@ -52,10 +49,6 @@ got-there s next_end tables kept own name n at x got =
 pub got-some : (s : State) (next_end : ℕ) (tables : Tables) → IsKept s next_end tables → s.subscriptions ≡ values tables.subscriptions → (name : List ℕ) (n : ℕ) → numbered tables.subscription_numbers name ≡ Some n
     → None ≡ lookup (is_at (nat_cmp n)) tables.subscriptions.entries → ⊥
 got-some s next_end tables kept own name n at none = let there = subscription-there s next_end tables kept own name n at in cc (there.1.got, none)
-
--- a state that an entry more makes steady stands for a world that is all live
-pub live-left : (at : ℕ) (made : State) → IsSteady (recorded_at at made) → live (seen made) ≡ seen made
-live-left at made steady = ap (λ (w : World). record w { now = made.now; count = made.count }) (live-seen (recorded_at at made) steady)
 
 -- the subscription of a name, of a core that keeps a state
 module _ (s : State) (next_end : ℕ) (tables : Tables) (kept : IsKept s next_end tables) (own : s.subscriptions ≡ values tables.subscriptions) (name : List ℕ) (n : ℕ) (x : KeptSubscription) (there : IsSubscriptionAt s tables name n x) where

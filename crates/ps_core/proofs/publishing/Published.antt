@@ -15,6 +15,7 @@ use Rattle.ps_message.specs.declared.message.Message.{Message}
 use Rattle.ps_model.specs.declared.command.Command.TheVariants.{Publish}
 use Rattle.ps_model.specs.declared.reply.Reply.{Reply}
 use Rattle.ps_model.specs.declared.reply.Reply.TheVariants.{Published, Refused}
+use Rattle.ps_model.specs.declared.mark.Mark.{Mark}
 use Rattle.ps_model.specs.declared.world.World.{World}
 use Rattle.ps_model.specs.declared.world.MarkRow.{MarkRow}
 use Rattle.ps_model.specs.declared.world.MessageRow.{MessageRow}
@@ -23,6 +24,7 @@ use Rattle.ps_model.specs.declared.world.TopicRow.{TopicRow}
 use Rattle.ps_model.specs.Forwarding.{message_rows, add_messages}
 use Rattle.ps_model.specs.Live.{live}
 use Rattle.ps_model.specs.Same.{same_world}
+use Rattle.ps_model.specs.Settling.{catch_up}
 use Rattle.ps_model.specs.Slots.{is_gone}
 use Rattle.ps_model.specs.Topics.{publish_at}
 use Rattle.ps_model.specs.Worlds.{topic_named}
@@ -38,7 +40,7 @@ use Rattle.ps_tables.specs.Members.{HasMembers, attached_at, numbered}
 use Rattle.ps_core.specs.Keeping.{IsCounted, IsKept, state_of, subscription_at, the_message, the_row}
 use Rattle.ps_tables.specs.Numbers.{IsNumbered}
 use Rattle.ps_core.specs.State.{State, flat_marks, seen, sub_row}
-use Rattle.ps_core.specs.Steady.{IsJoined, IsPlainMark, IsSteadySubscription, IsSteady}
+use Rattle.ps_core.specs.Steady.{IsJoined, IsSteadySubscription, IsSteady}
 use Rattle.ps_base.proofs.Lists.{each-always, each-append, each-map, each-of-map, each-then}
 use Rattle.ps_tables.proofs.lists.Filtered.{filter-all}
 use Rattle.ps_core.proofs.carrying.Kept.{find-in-map}
@@ -46,9 +48,9 @@ use Rattle.ps_core.proofs.carrying.Outcomes.{carried-made, carried-shown, outcom
 use Rattle.ps_core.proofs.publishing.Had.{counted-old, published-left}
 use Rattle.ps_core.proofs.publishing.Moving.{published-due, published-moves}
 use Rattle.ps_tables.proofs.publishing.Rows.{rows-kept, rows-length}
-use Rattle.ps_core.proofs.publishing.Steady.{published-steady}
+use Rattle.ps_core.proofs.publishing.Steady.{published-rows, published-steady}
 use Rattle.ps_core.proofs.publishing.World.{add-seen, subs-entered, with_published}
-use Rattle.ps_core.proofs.settling.Expunging.{IsPlain, marks-each, plain-here, plain-steady}
+use Rattle.ps_core.proofs.settling.Expunging.{IsPlain, catch_up-seen, caught-steady, marks-each, plain-steady}
 
 -- ---- what a publish needs of the core
 
@@ -114,7 +116,7 @@ publish-missing at name messages s room fits nowhere =
 live-plain : (s : State) → IsPlain s → AllByRecursion (λ (m : MessageRow). m.kept ≡ true) s.messages → live (seen s) ≡ seen s
 live-plain s plain kept =
     let here : AllByRecursion (λ (r : MarkRow). not (is_gone r.mark) ≡ true) (flat_marks s.subscriptions) =
-    each-then (λ (r : MarkRow). IsPlainMark r.mark) (λ (r : MarkRow). not (is_gone r.mark) ≡ true) (flat_marks s.subscriptions) (λ r h. ap not (plain-here r.mark h)) (marks-each IsPlainMark s.subscriptions plain.marks) in
+    each-then (λ (r : MarkRow). is_gone r.mark ≡ false) (λ (r : MarkRow). not (is_gone r.mark) ≡ true) (flat_marks s.subscriptions) (λ r h. ap not h) (marks-each (λ (m : Mark). is_gone m ≡ false) s.subscriptions plain.marks) in
     λ i. record (seen s) {
       messages = filter-all (λ (m : MessageRow). m.kept) s.messages kept i;
       marks = filter-all (λ (r : MarkRow). not (is_gone r.mark)) (flat_marks s.subscriptions) here i;
@@ -132,10 +134,14 @@ publish-carried at name messages s topic h room later within fits named =
     let after : IsSteady (recorded_at at (add_published at topic.number messages s)) = published-steady at topic.number messages s h later within room few.1 in
     let plain : IsPlain made = record { topic_settings = h.topic_settings; marks = (plain-steady (recorded_at at (add_published at topic.number messages s)) after).marks } in
     let kept : AllByRecursion (λ (m : MessageRow). m.kept ≡ true) made.messages = each-append (λ (m : MessageRow). m.kept ≡ true) s.messages rows h.kept (rows-kept topic.number s.next_message at messages) in
+    let world = add-seen at topic.number messages s h in
+    let caught : catch_up w ≡ w =
+    ap catch_up world ∙ catch_up-seen made after.subscriptions (published-rows at topic.number messages s h later) (caught-steady (recorded_at at (add_published at topic.number messages s)) after) ∙ sym world in
     subst (λ (v : State). IsCarried at (Publish name messages) s (recorded_at at v) reply true) left
     (carried-made at (Publish name messages) s made reply w h plain
     (outcome-open s at (Publish name messages) room fits ∙ ap (publish_at (seen s) at name messages) named)
     (ap live (add-seen at topic.number messages s h) ∙ live-plain made plain kept)
+    caught
     (ap (λ (v : State). same_world (seen s) (seen v)) left ∙ published-moves at topic.number messages s few.0)
     refl)
 

@@ -10,20 +10,24 @@ use Rattle.ps_model.specs.declared.mark.Slot.{Slot}
 use Rattle.ps_model.specs.declared.world.MessageRow.{MessageRow}
 use Rattle.ps_model.specs.Forwarding.{message_rows}
 use Rattle.ps_model.specs.Seeking.{fresh}
+use Rattle.ps_model.specs.Slots.{is_ahead}
 use Rattle.ps_model.specs.Sound.{Ordered}
-use Rattle.ps_model.specs.Worlds.{item_at, message_numbered, no_message}
+use Rattle.ps_model.specs.Worlds.{item_at, message_numbered, no_message, row_of, slot_of}
 use Rattle.ps_sub.specs.Showing.{has}
 use Rattle.ps_tables.specs.declared.kept_subscription.KeptSubscription.{KeptSubscription}
 use Rattle.ps_core.specs.State.{State}
-use Rattle.ps_core.specs.Steady.{HasGoodSettings, IsJoined, IsSteadySubscription, IsSteady}
+use Rattle.ps_core.specs.Steady.{HasGoodSettings, IsCaughtUp, IsJoined, IsSteadySubscription, IsSteady}
 use Rattle.ps_core.specs.Effects.{add_published, recorded_at}
 use Rattle.ps_tables.specs.Subscriptions.{enter_subscription, filter_of, is_attached, is_had, slot_in, wanted_of}
 use Rattle.ps_tables.specs.Entering.{enter_wanted, is_wanted}
-use Rattle.ps_base.proofs.Lists.{each-append, each-both, each-filter, each-left, each-map, each-then, each-then-both, find-behind, find-front, find-none}
+use Rattle.ps_base.proofs.Lists.{each-always, each-append, each-both, each-filter, each-left, each-map, each-then, each-then-both, find-behind, find-front, find-none}
+use Rattle.ps_tables.proofs.lists.Filtered.{filter-all}
 use Rattle.ps_tables.proofs.lists.Ordered.{ordered-append, ordered-map}
+use Rattle.ps_core.proofs.marks.Flat.{Joined}
 use Rattle.ps_core.proofs.publishing.Had.{new-from, old-had, own-had, slots-below}
 use Rattle.ps_tables.proofs.publishing.Holders.{rows-in}
 use Rattle.ps_tables.proofs.publishing.Rows.{rows-from, rows-kept, rows-length, rows-ordered, rows-published, rows-to}
+use Rattle.ps_core.proofs.settling.CaughtUp.{caught_up-more}
 use Rattle.ps_core.proofs.publishing.World.{new_slots, number-entered, slots-entered}
 
 -- ---- look-ups among the messages
@@ -56,6 +60,11 @@ ordered-left test (r ∷ rs) h =
     cond_both (test r) (r ∷ filter test rs) (filter test rs) (Ordered (λ (a b : MessageRow). a.number < b.number))
     (λ e. (each-left (λ (m : MessageRow). r.number < m.number) test rs h.0, ordered-left test rs h.1)) (λ e. ordered-left test rs h.1)
 
+-- no new message is ahead
+new-not-ahead : (rows : List MessageRow) → AllByRecursion (λ (slot : Slot). is_ahead slot.mark ≡ false) (map slot_in rows)
+new-not-ahead [] = tt
+new-not-ahead (r ∷ rs) = (refl, new-not-ahead rs)
+
 -- ---- one publish
 
 module _ (at topic : ℕ) (messages : List Message) (s : State) (steady : IsSteady s) (later : s.now ≤ at) where
@@ -83,7 +92,7 @@ module _ (at topic : ℕ) (messages : List Message) (s : State) (steady : IsStea
         ∙ h.row;
     number = omega (arith, h.number);
     publish = omega (arith, h.publish, later);
-    plain = h.plain;
+    here = h.here;
   }
 
   -- what a new message's row meets
@@ -115,7 +124,7 @@ module _ (at topic : ℕ) (messages : List Message) (s : State) (steady : IsStea
         (message-new s.messages left s.next_message m.number h.from steady.messages_below ∙ h.found had);
     number = h.to;
     publish = omega (arith, h.published);
-    plain = refl;
+    here = refl;
   }
 
   -- the new slots of one subscription
@@ -137,6 +146,40 @@ module _ (at topic : ℕ) (messages : List Message) (s : State) (steady : IsStea
     where
       IsJoinedRow : KeptSubscription → KeptSubscription → MessageRow → Type 0
       IsJoinedRow x y m = IsJoined made y (slot_in m)
+
+  -- ---- look-ups among all messages, old and new
+
+  row-old : (k : ℕ) (slot : Slot) → slot.item.number < s.next_message → slot_of s.messages (row_of k slot) ≡ slot → slot_of (s.messages ++ rows) (row_of k slot) ≡ slot
+  row-old k slot below row =
+      ap (λ (found : Option MessageRow). record { item = item_at slot.item.number (unwrap_or found (no_message slot.item.number)); mark = slot.mark })
+      (message-old s.messages rows s.next_message slot.item.number below (rows-from topic s.next_message s.next_message at messages (omega arith)))
+      ∙ row
+
+  row-new : (k : ℕ) (m : MessageRow) → s.next_message ≤ m.number → message_numbered rows m.number ≡ Some m → slot_of (s.messages ++ rows) (row_of k (slot_in m)) ≡ slot_in m
+  row-new k m from found =
+      ap (λ (o : Option MessageRow). record { item = item_at m.number (unwrap_or o (no_message m.number)); mark = fresh })
+      (message-new s.messages rows s.next_message m.number from steady.messages_below ∙ found)
+
+  all-found : AllByRecursion (λ (m : MessageRow). message_numbered rows m.number ≡ Some m) rows
+  all-found =
+      let same : filter (λ (m : MessageRow). true) rows ≡ rows = filter-all (λ (m : MessageRow). true) rows (each-always (λ (m : MessageRow). true ≡ true) rows (λ m. refl)) in
+      each-then (λ (m : MessageRow). true ≡ true → message_numbered (filter (λ (e : MessageRow). true) rows) m.number ≡ Some m) (λ (m : MessageRow). message_numbered rows m.number ≡ Some m) rows
+      (λ m found. ap (λ (ms : List MessageRow). message_numbered ms m.number) (sym same) ∙ found refl) (passing-found (λ (m : MessageRow). true) rows (rows-ordered topic s.next_message at messages))
+
+  entered-rows : (x : KeptSubscription) → IsSteadySubscription s x → Joined (s.messages ++ rows) (enter_subscription topic rows x).number (enter_subscription topic rows x).sub.slots
+  entered-rows x own =
+      let k : ℕ = (enter_subscription topic rows x).number in
+      let Row : Slot → Type 0 = λ slot. slot_of (s.messages ++ rows) (row_of k slot) ≡ slot in
+      let Found : MessageRow → Type 0 = λ m. (s.next_message ≤ m.number) × (message_numbered rows m.number ≡ Some m) in
+      subst (AllByRecursion Row) (sym (slots-entered topic rows x))
+      (each-append Row x.sub.slots (new_slots topic rows x) (each-then (IsJoined s x) Row x.sub.slots (λ slot j. row-old k slot j.number j.row) own.joined)
+      (cond_both (is_attached topic x) (map slot_in (wanted_of x rows)) [] (AllByRecursion Row)
+      (λ _. each-map Found Row slot_in (wanted_of x rows) (λ m found. row-new k m found.0 found.1)
+      (each-left Found (λ (m : MessageRow). is_wanted x m.message) rows (each-both (λ (m : MessageRow). s.next_message ≤ m.number) (λ (m : MessageRow). message_numbered rows m.number ≡ Some m) rows (rows-from topic s.next_message s.next_message at messages (omega arith)) all-found)))
+      (λ _. tt)))
+
+  pub published-rows : AllByRecursion (λ (y : KeptSubscription). Joined (s.messages ++ rows) y.number y.sub.slots) (map (enter_subscription topic rows) s.subscriptions)
+  published-rows = each-map (IsSteadySubscription s) (λ (y : KeptSubscription). Joined (s.messages ++ rows) y.number y.sub.slots) (enter_subscription topic rows) s.subscriptions entered-rows steady.each
 
   abbrev entered : KeptSubscription → KeptSubscription
   entered x = enter_subscription topic (message_rows topic s.next_message at messages) x
@@ -161,6 +204,8 @@ module _ (at topic : ℕ) (messages : List Message) (s : State) (steady : IsStea
         slots = subst (Ordered Before) (sym (slots-entered topic rows x)) (ordered-append Before x.sub.slots new h.slots right.up before);
         joined = subst (AllByRecursion (IsJoined made y)) (sym (slots-entered topic rows x))
             (each-append (IsJoined made y) x.sub.slots new (each-then (IsJoined s x) (IsJoined made y) x.sub.slots (λ slot k. joined-old x y slot k) h.joined) right.joined);
+        caught_up = settings-rest (λ (z : KeptSubscription). IsCaughtUp z.sub.config.ordering z.sub.slots) x h.caught_up
+            (caught_up-more x.sub.config.ordering x.sub.slots (map slot_in (wanted_of x rows)) h.caught_up (new-not-ahead (wanted_of x rows)));
         detached =
             cond_both (is_attached topic x) (enter_wanted rows x) x (λ (z : KeptSubscription). z.detached ≡ true → z.sub.slots ≡ [])
             (λ e gone. absurd (both_ways (not x.detached) (ap not gone) ((and_parts (nat_eq x.topic topic) (not x.detached) e).1))) (λ e. h.detached);

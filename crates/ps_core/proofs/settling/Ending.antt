@@ -3,7 +3,7 @@ use Rattle.ps_names.specs.Names.{is_sub_name}
 use Rattle.std.proofs.Common.{ℕ, ◌≡◌, ◌≢◌, ◌<◌, ◌+◌, Bool, true, false, ◌||◌, nat_eq, List, [], ◌∷◌, ◌++◌, None, map, flat_map, is_some, append-nil, refl, sym, subst, ◌∙◌, ap, arith, if◌then◌else◌}
 use Rattle.std.specs.BTreeMap.{values}
 use Rattle.std.specs.List.{AllByRecursion, list_any}
-use Rattle.std.proofs.lemmas.Bool.{and_right, cond_both}
+use Rattle.std.proofs.lemmas.Bool.{and_right, cond_both, false≢true}
 use Rattle.ps_model.specs.declared.mark.Mark.{Mark}
 use Rattle.ps_model.specs.declared.mark.Mark.TheVariants.{Backlog, Leased, Ahead, Done, Gone}
 use Rattle.ps_model.specs.declared.mark.Slot.{Slot}
@@ -14,13 +14,14 @@ use Rattle.ps_model.specs.declared.world.MessageRow.{MessageRow}
 use Rattle.ps_model.specs.Failing.{failed, fallen, mark_after_failing, fail, is_due, dead_letter, dead_letters}
 use Rattle.ps_model.specs.Forwarding.{Letter, letters_of, dead_topic, forward, entered, enter_all}
 use Rattle.ps_model.specs.Settling.{end_leases, ended_letters, expunge_world, settle}
-use Rattle.ps_model.specs.Slots.{any_earlier, remark, remarked}
+use Rattle.ps_model.specs.Slots.{any_earlier, is_ahead, is_unacked, remark, remarked}
 use Rattle.ps_model.specs.Worlds.{slots_of}
 use Rattle.ps_sub.specs.Showing.{has}
+use Rattle.ps_sub.proofs.SteadyLemmas.{failing-live}
 use Rattle.ps_tables.specs.declared.kept_subscription.KeptSubscription.{KeptSubscription}
 use Rattle.ps_core.specs.State.{State, seen, sub_row}
 use Rattle.ps_tables.specs.Subscriptions.{number_of, is_had, with_slots}
-use Rattle.ps_core.specs.Steady.{HasGoodSettings, IsPlainMark, IsJoined, IsSteadySubscription, IsSteady}
+use Rattle.ps_core.specs.Steady.{HasGoodSettings, IsJoined, IsSteadySubscription, IsSteady}
 use Rattle.ps_core.specs.Effects.{settle_subscription, settle_state}
 use Rattle.ps_core.specs.Keeping.{IsKept}
 use Rattle.ps_tables.specs.Numbers.{IsNumbered}
@@ -29,29 +30,54 @@ use Rattle.ps_tables.specs.declared.tables.Tables.{Tables}
 use Rattle.ps_base.proofs.Lists.{each-always, each-map, each-then}
 use Rattle.ps_core.proofs.carrying.Kept.{IsSameHolder, kept-changed}
 use Rattle.ps_tables.proofs.lists.Ordered.{ordered-map}
-use Rattle.ps_core.proofs.settling.Expunging.{expunge-seen}
+use Rattle.ps_core.proofs.settling.CaughtUp.{caught_up-kept}
+use Rattle.ps_core.proofs.settling.Expunging.{expunge-seen, rows-steady}
 use Rattle.ps_core.proofs.checking.Faults.{plainly}
 use Rattle.ps_core.proofs.settling.Passes.{pass-seen, remark_subscription}
 
-failed-plain : (at : ℕ) (config : SubConfig) → HasGoodSettings config → (m : Mark) → IsPlainMark m → IsPlainMark (failed at false config m)
-failed-plain at config settings (Backlog failures until last) h = h
-failed-plain at config settings (Leased failures lease deadline) h = let plain = plainly config settings.built in rw (plain.dead_letter, plain.retry) refl
-failed-plain at config settings (Ahead failures) h = h
-failed-plain at config settings (Done cause) h = h
-failed-plain at config settings (Gone cause) h = h
+-- ---- without a dead-letter topic a failure acknowledges nothing
 
-fallen-plain : (m : Mark) → IsPlainMark m → IsPlainMark (fallen m)
-fallen-plain (Backlog failures until last) h = h
-fallen-plain (Leased failures lease deadline) h = refl
-fallen-plain (Ahead failures) h = refl
-fallen-plain (Done cause) h = h
-fallen-plain (Gone cause) h = h
+module _ (at : ℕ) (config : SubConfig) (no_letter : config.dead_letter ≡ None) where
+  failed-unacked : (m : Mark) → is_unacked m ≡ true → is_unacked (failed at false config m) ≡ true
+  failed-unacked (Backlog failures until last) h = refl
+  failed-unacked (Leased failures lease deadline) h = rw no_letter refl
+  failed-unacked (Ahead failures) h = absurd (false≢true h)
+  failed-unacked (Done cause) h = absurd (false≢true h)
+  failed-unacked (Gone cause) h = absurd (false≢true h)
 
-failing-plain : (at : ℕ) (config : SubConfig) → HasGoodSettings config → (slots : List Slot) (slot : Slot) → IsPlainMark slot.mark → IsPlainMark (mark_after_failing (is_due at) at false config slots slot)
-failing-plain at config settings slots slot h =
-    cond_both (is_due at slot) (failed at false config slot.mark) (if any_earlier config.ordering (is_due at) slots slot then fallen slot.mark else slot.mark) IsPlainMark
-    (λ _. failed-plain at config settings slot.mark h)
-    (λ _. cond_both (any_earlier config.ordering (is_due at) slots slot) (fallen slot.mark) slot.mark IsPlainMark (λ _. fallen-plain slot.mark h) (λ _. h))
+  failed-ahead : (m : Mark) → is_ahead (failed at false config m) ≡ true → is_ahead m ≡ true
+  failed-ahead (Backlog failures until last) h = absurd (false≢true h)
+  failed-ahead (Leased failures lease deadline) h = absurd (false≢true (rw no_letter at h))
+  failed-ahead (Ahead failures) h = refl
+  failed-ahead (Done cause) h = absurd (false≢true h)
+  failed-ahead (Gone cause) h = absurd (false≢true h)
+
+  fallen-unacked : (m : Mark) → is_unacked m ≡ true → is_unacked (fallen m) ≡ true
+  fallen-unacked (Backlog failures until last) h = refl
+  fallen-unacked (Leased failures lease deadline) h = refl
+  fallen-unacked (Ahead failures) h = refl
+  fallen-unacked (Done cause) h = h
+  fallen-unacked (Gone cause) h = h
+
+  fallen-ahead : (m : Mark) → is_ahead (fallen m) ≡ true → is_ahead m ≡ true
+  fallen-ahead (Backlog failures until last) h = h
+  fallen-ahead (Leased failures lease deadline) h = absurd (false≢true h)
+  fallen-ahead (Ahead failures) h = refl
+  fallen-ahead (Done cause) h = h
+  fallen-ahead (Gone cause) h = h
+
+  module _ (fails : Slot → Bool) (slots : List Slot) where
+    pub failing-unacked : (slot : Slot) → is_unacked slot.mark ≡ true → is_unacked (mark_after_failing fails at false config slots slot) ≡ true
+    failing-unacked slot h =
+        cond_both (fails slot) (failed at false config slot.mark) (if any_earlier config.ordering fails slots slot then fallen slot.mark else slot.mark) (λ (m : Mark). is_unacked m ≡ true)
+        (λ _. failed-unacked slot.mark h)
+        (λ _. cond_both (any_earlier config.ordering fails slots slot) (fallen slot.mark) slot.mark (λ (m : Mark). is_unacked m ≡ true) (λ _. fallen-unacked slot.mark h) (λ _. h))
+
+    pub failing-ahead : (slot : Slot) → is_ahead (mark_after_failing fails at false config slots slot) ≡ true → is_ahead slot.mark ≡ true
+    failing-ahead slot =
+        cond_both (fails slot) (failed at false config slot.mark) (if any_earlier config.ordering fails slots slot then fallen slot.mark else slot.mark) (λ (m : Mark). is_ahead m ≡ true → is_ahead slot.mark ≡ true)
+        (λ _. failed-ahead slot.mark)
+        (λ _. cond_both (any_earlier config.ordering fails slots slot) (fallen slot.mark) slot.mark (λ (m : Mark). is_ahead m ≡ true → is_ahead slot.mark ≡ true) (λ _. fallen-ahead slot.mark) (λ _ h. h))
 
 pub has-remarked : (rule : Slot → Mark) (number : ℕ) (slots : List Slot) → has (remarked rule slots) number ≡ has slots number
 has-remarked rule number [] = refl
@@ -65,15 +91,15 @@ had-mapped f number h (x ∷ xs) = λ i. h x i || had-mapped f number h xs i
 settle-had : (at number : ℕ) (xs : List KeptSubscription) → is_had (map (settle_subscription at) xs) number ≡ is_had xs number
 settle-had at number xs = had-mapped (settle_subscription at) number (λ x. has-remarked (mark_after_failing (is_due at) at false x.sub.config x.sub.slots) number x.sub.slots) xs
 
-settle-joined : (at : ℕ) (s : State) (x : KeptSubscription) → HasGoodSettings x.sub.config → (slot : Slot) → IsJoined s x slot
+settle-joined : (at : ℕ) (s : State) (x : KeptSubscription) (slot : Slot) → IsJoined s x slot
     → IsJoined (settle_state at s) (settle_subscription at x) (remark slot (mark_after_failing (is_due at) at false x.sub.config x.sub.slots slot))
-settle-joined at s x settings slot h =
+settle-joined at s x slot h =
     let mark : Mark = mark_after_failing (is_due at) at false x.sub.config x.sub.slots slot in
     record {
       row = ap (λ (e : Slot). remark e mark) h.row;
       number = h.number;
       publish = h.publish;
-      plain = failing-plain at x.sub.config settings x.sub.slots slot h.plain;
+      here = failing-live (is_due at) at false x.sub.config x.sub.slots slot h.here;
     }
 
 settle-subscription-steady : (at : ℕ) (s : State) (x : KeptSubscription) → IsSteadySubscription s x → IsSteadySubscription (settle_state at s) (settle_subscription at x)
@@ -84,7 +110,10 @@ settle-subscription-steady at s x h =
       filter = h.filter;
       leases = h.leases;
       slots = ordered-map (λ (a b : Slot). a.item.number < b.item.number) (λ (a b : Slot). a.item.number < b.item.number) (λ (slot : Slot). remark slot (rule slot)) x.sub.slots (λ a b up. up) h.slots;
-      joined = each-map (IsJoined s x) (IsJoined (settle_state at s) (settle_subscription at x)) (λ (slot : Slot). remark slot (rule slot)) x.sub.slots (settle-joined at s x h.settings) h.joined;
+      joined = each-map (IsJoined s x) (IsJoined (settle_state at s) (settle_subscription at x)) (λ (slot : Slot). remark slot (rule slot)) x.sub.slots (settle-joined at s x) h.joined;
+      caught_up =
+          let no_letter = (plainly x.sub.config h.settings.built).dead_letter in
+          caught_up-kept x.sub.config.ordering rule (failing-unacked at x.sub.config no_letter (is_due at) x.sub.slots) (failing-ahead at x.sub.config no_letter (is_due at) x.sub.slots) x.sub.slots h.caught_up;
       detached = λ e. ap (remarked rule) (h.detached e);
       topic = h.topic;
     }
@@ -114,7 +143,7 @@ settle-steady at s h = record {
 }
 
 -- without a policy no dead letter has a topic
-forward-no : (w : World) (x : KeptSubscription) → HasGoodSettings x.sub.config → is_some (dead_topic w (sub_row x)) ≡ false
+pub forward-no : (w : World) (x : KeptSubscription) → HasGoodSettings x.sub.config → is_some (dead_topic w (sub_row x)) ≡ false
 forward-no w x settings = rw (plainly x.sub.config settings.built).dead_letter refl
 
 ends-subscription : (at : ℕ) (w : World) (x : KeptSubscription) → HasGoodSettings x.sub.config → remark_subscription (λ sub. mark_after_failing (is_due at) at (is_some (dead_topic w sub)) sub.config) x ≡ settle_subscription at x
@@ -128,12 +157,9 @@ ends-subscriptions at w (x ∷ xs) h = λ i. ends-subscription at w x h.0 i ∷ 
 pub settings-steady : (s : State) → IsSteady s → AllByRecursion (λ (x : KeptSubscription). HasGoodSettings x.sub.config) s.subscriptions
 settings-steady s h = each-then (IsSteadySubscription s) (λ (x : KeptSubscription). HasGoodSettings x.sub.config) s.subscriptions (λ x own. own.settings) h.each
 
-pub joined-steady : (s : State) → IsSteady s → AllByRecursion (λ (x : KeptSubscription). AllByRecursion (IsJoined s x) x.sub.slots) s.subscriptions
-joined-steady s h = each-then (IsSteadySubscription s) (λ (x : KeptSubscription). AllByRecursion (IsJoined s x) x.sub.slots) s.subscriptions (λ x own. own.joined) h.each
-
 pub ends-seen : (at : ℕ) (s : State) → IsSteady s → end_leases at (seen s) ≡ seen (settle_state at s)
 ends-seen at s h =
-    pass-seen (λ sub. mark_after_failing (is_due at) at (is_some (dead_topic (seen s) sub)) sub.config) s h.subscriptions (joined-steady s h)
+    pass-seen (λ sub. mark_after_failing (is_due at) at (is_some (dead_topic (seen s) sub)) sub.config) s h.subscriptions (rows-steady s h)
     ∙ ap (λ (xs : List KeptSubscription). seen (record s { subscriptions = xs })) (ends-subscriptions at (seen s) s.subscriptions (settings-steady s h))
 
 no-letter : (fails : Slot → Bool) (forward : Bool) (config : SubConfig) → HasGoodSettings config → (m : Mark) (slot : Slot) → dead_letter fails forward config m slot ≡ None
@@ -143,7 +169,7 @@ no-letter fails forward config settings (Ahead failures) slot = refl
 no-letter fails forward config settings (Done cause) slot = refl
 no-letter fails forward config settings (Gone cause) slot = refl
 
-no-letters : (fails : Slot → Bool) (forward : Bool) (config : SubConfig) → HasGoodSettings config → (slots : List Slot) → dead_letters fails forward config slots ≡ []
+pub no-letters : (fails : Slot → Bool) (forward : Bool) (config : SubConfig) → HasGoodSettings config → (slots : List Slot) → dead_letters fails forward config slots ≡ []
 no-letters fails forward config settings [] = refl
 no-letters fails forward config settings (slot ∷ slots) = rw (no-letter fails forward config settings slot.mark slot) (no-letters fails forward config settings slots)
 

@@ -1,11 +1,10 @@
 -- While everything is held, expunging changes nothing.
-use Rattle.std.proofs.Common.{ℕ, ◌≡◌, Bool, true, false, ◌&&◌, ◌||◌, not, nat_eq, List, [], ◌∷◌, Option, Some, None, map, find, option_and_then, is_some, codes, if◌then◌else◌, refl, ◌∙◌, ap}
+use Rattle.std.proofs.Common.{ℕ, ◌≡◌, ◌<◌, Bool, true, false, ◌&&◌, ◌||◌, not, nat_eq, List, [], ◌∷◌, Option, Some, None, map, find, option_and_then, is_some, codes, if◌then◌else◌, refl, sym, ◌∙◌, ap}
 use Rattle.std.specs.List.{AllByRecursion, list_any}
 use Rattle.std.proofs.Math.Bool.{and-true, or-false}
 use Rattle.std.proofs.lemmas.Bool.{or_right, and_right, cond_both}
 use Rattle.std.proofs.lemmas.List.Folds.{list_any-append}
 use Rattle.ps_model.specs.declared.mark.Mark.{Mark}
-use Rattle.ps_model.specs.declared.mark.Mark.TheVariants.{Backlog, Leased, Ahead, Done, Gone}
 use Rattle.ps_model.specs.declared.mark.Slot.{Slot}
 use Rattle.ps_config.specs.declared.config.TopicConfig.{TopicConfig}
 use Rattle.ps_model.specs.declared.world.World.{World}
@@ -13,28 +12,31 @@ use Rattle.ps_model.specs.declared.world.TopicRow.{TopicRow}
 use Rattle.ps_model.specs.declared.world.SubRow.{SubRow}
 use Rattle.ps_model.specs.declared.world.MessageRow.{MessageRow}
 use Rattle.ps_model.specs.declared.world.MarkRow.{MarkRow}
-use Rattle.ps_model.specs.Retention.{expired_mark, caught_up_mark, released_mark, caught_up_as, is_within}
+use Rattle.ps_model.specs.Retention.{expired_mark, caught_up_mark, released_mark, is_within}
 use Rattle.ps_model.specs.Settling.{expire, catch_up, release, is_wanted, let_go, expunge_world}
-use Rattle.ps_model.specs.Slots.{is_gone, is_done, is_unacked, any_earlier}
+use Rattle.ps_model.specs.Slots.{is_gone, is_done}
+use Rattle.ps_model.specs.Sound.{Ordered}
 use Rattle.ps_model.specs.Worlds.{sub_numbered, slots_of, slot_of, row_of, new_mark, remark_all, holds_of, window_of}
 use Rattle.ps_sub.specs.Showing.{has}
 use Rattle.ps_tables.specs.declared.kept_subscription.KeptSubscription.{KeptSubscription}
 use Rattle.ps_core.specs.State.{State, seen, flat_marks}
 use Rattle.ps_core.specs.Built.{unbuilt_topic_setting}
-use Rattle.ps_tables.specs.Subscriptions.{is_had}
-use Rattle.ps_core.specs.Steady.{IsPlainMark, IsJoined, IsSteadySubscription, IsSteady}
+use Rattle.ps_tables.specs.Subscriptions.{is_had, with_slots}
+use Rattle.ps_core.specs.Steady.{IsCaughtUp, IsJoined, IsSteadySubscription, IsSteady}
 use Rattle.ps_base.proofs.Lists.{each-append, each-map, each-then, each-then-both, map-alike, map-rests}
-use Rattle.ps_core.proofs.settling.Passes.{pass-rests}
+use Rattle.ps_core.proofs.marks.Flat.{Joined}
+use Rattle.ps_core.proofs.settling.CaughtUp.{caught_up-rests}
+use Rattle.ps_core.proofs.settling.Passes.{pass-rests, pass-seen, remark_subscription}
 
--- what expunging reads of a state: settings of topics that keep nothing, and marks that are plain
+-- what expunging reads of a state: settings of topics that keep nothing, and marks that aren't gone
 pub record IsPlain (s : State) : Type 0 where
   pub topic_settings : AllByRecursion (λ (r : TopicRow). unbuilt_topic_setting r.config ≡ None) s.topics
-  pub marks : AllByRecursion (λ (x : KeptSubscription). AllByRecursion (λ (slot : Slot). IsPlainMark slot.mark) x.sub.slots) s.subscriptions
+  pub marks : AllByRecursion (λ (x : KeptSubscription). AllByRecursion (λ (slot : Slot). is_gone slot.mark ≡ false) x.sub.slots) s.subscriptions
 
 pub plain-steady : (s : State) → IsSteady s → IsPlain s
 plain-steady s h = record {
   topic_settings = h.topic_settings;
-  marks = each-then (IsSteadySubscription s) (λ (x : KeptSubscription). AllByRecursion (λ (slot : Slot). IsPlainMark slot.mark) x.sub.slots) s.subscriptions (λ x own. each-then (IsJoined s x) (λ (slot : Slot). IsPlainMark slot.mark) x.sub.slots (λ slot j. j.plain) own.joined) h.each;
+  marks = each-then (IsSteadySubscription s) (λ (x : KeptSubscription). AllByRecursion (λ (slot : Slot). is_gone slot.mark ≡ false) x.sub.slots) s.subscriptions (λ x own. each-then (IsJoined s x) (λ (slot : Slot). is_gone slot.mark ≡ false) x.sub.slots (λ slot j. j.here) own.joined) h.each;
 }
 
 -- what holds of each mark of a subscription holds of each row
@@ -64,43 +66,36 @@ expire-rests at w = leaves-all (λ sub slots. expired_mark at sub.config (holds_
 pub release-rests : (at : ℕ) (w : World) → release at w ≡ w
 release-rests at w = leaves-all (λ sub slots. released_mark at sub.config (holds_of w sub.topic)) w (λ sub slots slot. rw (and_right (is_done slot.mark) false refl) refl)
 
-pub plain-caught_up : (m : Mark) → IsPlainMark m → caught_up_as m ≡ m
-plain-caught_up (Backlog failures until last) h = refl
-plain-caught_up (Leased failures lease deadline) h = refl
-plain-caught_up (Ahead failures) h = absurd h
-plain-caught_up (Done cause) h = refl
-plain-caught_up (Gone cause) h = absurd h
-
--- where nothing is ahead, nothing catches up
-pub catch_up-rests : (w : World) → AllByRecursion (λ (r : MarkRow). caught_up_as r.mark ≡ r.mark) w.marks → catch_up w ≡ w
-catch_up-rests w h =
-    pass-rests (λ sub. caught_up_mark sub.config.ordering) w
-    (each-then (λ (r : MarkRow). caught_up_as r.mark ≡ r.mark) (λ (r : MarkRow). new_mark (λ sub. caught_up_mark sub.config.ordering) w r (sub_numbered w r.sub) ≡ r.mark) w.marks (λ r rests. one r rests (sub_numbered w r.sub)) h)
+-- where every message has caught up, nothing catches up
+pub catch_up-seen : (s : State) → Ordered (λ (a b : KeptSubscription). a.number < b.number) s.subscriptions → AllByRecursion (λ (x : KeptSubscription). Joined s.messages x.number x.sub.slots) s.subscriptions
+    → AllByRecursion (λ (x : KeptSubscription). IsCaughtUp x.sub.config.ordering x.sub.slots) s.subscriptions → catch_up (seen s) ≡ seen s
+catch_up-seen s up joined caught =
+    pass-seen (λ sub. caught_up_mark sub.config.ordering) s up joined ∙ ap (λ (xs : List KeptSubscription). seen (record s { subscriptions = xs })) (each s.subscriptions caught)
   where
-    one : (r : MarkRow) → caught_up_as r.mark ≡ r.mark → (o : Option SubRow) → new_mark (λ sub. caught_up_mark sub.config.ordering) w r o ≡ r.mark
-    one r rests None = refl
-    one r rests (Some sub) =
-        cond_both (any_earlier sub.config.ordering (λ (e : Slot). is_unacked e.mark) (slots_of w sub.number) (slot_of w.messages r)) r.mark (caught_up_as r.mark) (λ (m : Mark). m ≡ r.mark)
-        (λ _. refl) (λ _. rests)
+    each : (xs : List KeptSubscription) → AllByRecursion (λ (x : KeptSubscription). IsCaughtUp x.sub.config.ordering x.sub.slots) xs → map (remark_subscription (λ sub. caught_up_mark sub.config.ordering)) xs ≡ xs
+    each [] h = refl
+    each (x ∷ xs) h = λ i. with_slots x (caught_up-rests x.sub.config.ordering x.sub.slots h.0 i) ∷ each xs h.1 i
 
-pub plain-here : (m : Mark) → IsPlainMark m → is_gone m ≡ false
-plain-here (Backlog failures until last) h = refl
-plain-here (Leased failures lease deadline) h = refl
-plain-here (Ahead failures) h = refl
-plain-here (Done cause) h = refl
-plain-here (Gone cause) h = absurd h
+pub rows-steady : (s : State) → IsSteady s → AllByRecursion (λ (x : KeptSubscription). Joined s.messages x.number x.sub.slots) s.subscriptions
+rows-steady s h = each-then (IsSteadySubscription s) (λ (x : KeptSubscription). Joined s.messages x.number x.sub.slots) s.subscriptions (λ x own. each-then (IsJoined s x) (λ (slot : Slot). slot_of s.messages (row_of x.number slot) ≡ slot) x.sub.slots (λ slot j. j.row) own.joined) h.each
+
+pub caught-steady : (s : State) → IsSteady s → AllByRecursion (λ (x : KeptSubscription). IsCaughtUp x.sub.config.ordering x.sub.slots) s.subscriptions
+caught-steady s h = each-then (IsSteadySubscription s) (λ (x : KeptSubscription). IsCaughtUp x.sub.config.ordering x.sub.slots) s.subscriptions (λ x own. own.caught_up) h.each
+
+pub catch_up-steady : (s : State) → IsSteady s → catch_up (seen s) ≡ seen s
+catch_up-steady s h = catch_up-seen s h.subscriptions (rows-steady s h) (caught-steady s h)
 
 -- a row of the message that isn't gone
 abbrev pub wants : ℕ → MarkRow → Bool
 wants number m = nat_eq m.message number && not (is_gone m.mark)
 
-slots-want : (n number : ℕ) (slots : List Slot) → AllByRecursion (λ (slot : Slot). IsPlainMark slot.mark) slots → list_any (wants number) (map (row_of n) slots) ≡ has slots number
+slots-want : (n number : ℕ) (slots : List Slot) → AllByRecursion (λ (slot : Slot). is_gone slot.mark ≡ false) slots → list_any (wants number) (map (row_of n) slots) ≡ has slots number
 slots-want n number [] h = refl
 slots-want n number (slot ∷ slots) h =
-    let first : wants number (row_of n slot) ≡ nat_eq slot.item.number number = ap (λ (gone : Bool). nat_eq slot.item.number number && not gone) (plain-here slot.mark h.0) ∙ and-true (nat_eq slot.item.number number) in
+    let first : wants number (row_of n slot) ≡ nat_eq slot.item.number number = ap (λ (gone : Bool). nat_eq slot.item.number number && not gone) h.0 ∙ and-true (nat_eq slot.item.number number) in
     λ i. first i || slots-want n number slots h.1 i
 
-pub marks-want : (number : ℕ) (xs : List KeptSubscription) → AllByRecursion (λ (x : KeptSubscription). AllByRecursion (λ (slot : Slot). IsPlainMark slot.mark) x.sub.slots) xs → list_any (wants number) (flat_marks xs) ≡ is_had xs number
+pub marks-want : (number : ℕ) (xs : List KeptSubscription) → AllByRecursion (λ (x : KeptSubscription). AllByRecursion (λ (slot : Slot). is_gone slot.mark ≡ false) x.sub.slots) xs → list_any (wants number) (flat_marks xs) ≡ is_had xs number
 marks-want number [] h = refl
 marks-want number (x ∷ xs) h =
     list_any-append (wants number) (map (row_of x.number) x.sub.slots) (flat_marks xs) ∙ λ i. slots-want x.number number x.sub.slots h.0 i || marks-want number xs h.1 i
@@ -130,15 +125,21 @@ wanted-had at s h m =
 abbrev pub kept_where_had : List KeptSubscription → MessageRow → MessageRow
 kept_where_had subscriptions m = record m { kept = m.kept && is_had subscriptions m.number }
 
--- Where every mark is plain, a message goes that no subscription has, and nothing else changes.
-pub expunge-kept : (at : ℕ) (s : State) → IsPlain s
+-- Where no mark is gone and all have caught up, a message goes that no subscription has, and nothing else changes.
+pub expunge-kept : (at : ℕ) (s : State) → IsPlain s → catch_up (seen s) ≡ seen s
     → expunge_world at (seen s) ≡ seen (record s { messages = map (λ (m : MessageRow). record m { kept = m.kept && is_had s.subscriptions m.number }) s.messages })
-expunge-kept at s h =
+expunge-kept at s h caught =
     let rests : release at (catch_up (expire at (seen s))) ≡ seen s =
-    release-rests at (catch_up (expire at (seen s))) ∙ ap catch_up (expire-rests at (seen s)) ∙ catch_up-rests (seen s) (each-then (λ (r : MarkRow). IsPlainMark r.mark) (λ (r : MarkRow). caught_up_as r.mark ≡ r.mark) (flat_marks s.subscriptions) (λ r plain. plain-caught_up r.mark plain) (marks-each IsPlainMark s.subscriptions h.marks)) in
+    release-rests at (catch_up (expire at (seen s))) ∙ ap catch_up (expire-rests at (seen s)) ∙ caught in
     let kept : map (let_go at (seen s)) s.messages ≡ map (kept_where_had s.subscriptions) s.messages =
     map-alike (let_go at (seen s)) (kept_where_had s.subscriptions) s.messages (λ m. ap (λ (had : Bool). record m { kept = m.kept && had }) (wanted-had at s h m)) in
     ap (λ (w : World). record w { messages = map (let_go at w) w.messages }) rests ∙ λ i. record (seen s) { messages = kept i }
+
+-- Expunging a world is expunging what it comes to when all have caught up.
+pub expunge-caught : (at : ℕ) (w v : World) → catch_up w ≡ v → catch_up v ≡ v → expunge_world at w ≡ expunge_world at v
+expunge-caught at w v caught rests =
+    ap (λ (gone : World). record gone { messages = map (let_go at gone) gone.messages })
+    (ap (release at) (ap catch_up (expire-rests at w) ∙ caught ∙ sym rests ∙ ap catch_up (sym (expire-rests at v))))
 
 -- While everything is held, nothing goes.
 pub expunge-seen : (at : ℕ) (s : State) → IsSteady s → expunge_world at (seen s) ≡ seen s
@@ -147,4 +148,4 @@ expunge-seen at s h =
     map-rests (kept_where_had s.subscriptions) s.messages
     (each-then-both (λ (m : MessageRow). m.kept ≡ true) (λ (m : MessageRow). is_had s.subscriptions m.number ≡ true) (λ (m : MessageRow). kept_where_had s.subscriptions m ≡ m) s.messages
     (λ m kept had. ap (λ (k : Bool). record m { kept = k }) (rw (kept, had) refl)) h.kept h.wanted) in
-    expunge-kept at s (plain-steady s h) ∙ λ i. seen (record s { messages = kept i })
+    expunge-kept at s (plain-steady s h) (catch_up-steady s h) ∙ λ i. seen (record s { messages = kept i })

@@ -14,9 +14,8 @@ use Rattle.ps_model.specs.Worlds.{sub_numbered, slots_of, slot_of, row_of, rows_
 use Rattle.ps_tables.specs.declared.kept_subscription.KeptSubscription.{KeptSubscription}
 use Rattle.ps_core.specs.State.{State, seen, sub_row, flat_marks, slots_in}
 use Rattle.ps_tables.specs.Subscriptions.{number_of, with_slots}
-use Rattle.ps_core.specs.Steady.{IsJoined}
 use Rattle.ps_base.proofs.Lists.{each-then, each-then-both, map-rests, map-unseen}
-use Rattle.ps_core.proofs.marks.Flat.{rows-above, rows-other, rows-own, slots-at}
+use Rattle.ps_core.proofs.marks.Flat.{Joined, rows-above, rows-other, rows-own, slots-at}
 
 -- Passes over the marks of a world
 
@@ -59,27 +58,25 @@ abbrev passed : (SubRow → List Slot → Slot → Mark) → World → MarkRow �
 passed rule w r = remark_row r (new_mark rule w r (sub_numbered w r.sub))
 
 module _ (rule : SubRow → List Slot → Slot → Mark) (s : State) where
-  slots-passed : (x : KeptSubscription) → sub_numbered (seen s) x.number ≡ Some (sub_row x) → slots_of (seen s) x.number ≡ x.sub.slots → (slots : List Slot) → AllByRecursion (IsJoined s x) slots
+  slots-passed : (x : KeptSubscription) → sub_numbered (seen s) x.number ≡ Some (sub_row x) → slots_of (seen s) x.number ≡ x.sub.slots → (slots : List Slot) → Joined s.messages x.number slots
       → map (passed rule (seen s)) (map (row_of x.number) slots) ≡ map (row_of x.number) (remarked (rule (sub_row x) x.sub.slots) slots)
   slots-passed x sub own [] h = refl
   slots-passed x sub own (slot ∷ slots) h =
       let mark : new_mark rule (seen s) (row_of x.number slot) (sub_numbered (seen s) x.number) ≡ rule (sub_row x) x.sub.slots slot =
-      ap (new_mark rule (seen s) (row_of x.number slot)) sub ∙ λ i. rule (sub_row x) (own i) (h.0.row i) in
+      ap (new_mark rule (seen s) (row_of x.number slot)) sub ∙ λ i. rule (sub_row x) (own i) (h.0 i) in
       λ i. remark_row (row_of x.number slot) (mark i) ∷ slots-passed x sub own slots h.1 i
 
-  marks-passed : (xs : List KeptSubscription) → AllByRecursion (IsFound s.subscriptions) xs → AllByRecursion (λ (x : KeptSubscription). AllByRecursion (IsJoined s x) x.sub.slots) xs
+  marks-passed : (xs : List KeptSubscription) → AllByRecursion (IsFound s.subscriptions) xs → AllByRecursion (λ (x : KeptSubscription). Joined s.messages x.number x.sub.slots) xs
       → map (passed rule (seen s)) (flat_marks xs) ≡ flat_marks (map (remark_subscription rule) xs)
   marks-passed [] found joined = refl
   marks-passed (x ∷ xs) found joined =
-      let rows : AllByRecursion (λ (slot : Slot). slot_of s.messages (row_of x.number slot) ≡ slot) x.sub.slots =
-      each-then (IsJoined s x) (λ (slot : Slot). slot_of s.messages (row_of x.number slot) ≡ slot) x.sub.slots (λ slot j. j.row) joined.0 in
-      let own : slots_of (seen s) x.number ≡ x.sub.slots = ap (map (slot_of s.messages)) found.0.rows ∙ slots-at s.messages x.number x.sub.slots rows in
+      let own : slots_of (seen s) x.number ≡ x.sub.slots = ap (map (slot_of s.messages)) found.0.rows ∙ slots-at s.messages x.number x.sub.slots joined.0 in
       map-append (passed rule (seen s)) (map (row_of x.number) x.sub.slots) (flat_marks xs)
       ∙ λ i. slots-passed x found.0.sub own x.sub.slots joined.0 i ++ marks-passed xs found.1 joined.1 i
 
 -- A pass over the marks of a world is one over the slots of each subscription.
 pub pass-seen : (rule : SubRow → List Slot → Slot → Mark) (s : State) → Ordered (λ (a b : KeptSubscription). a.number < b.number) s.subscriptions
-    → AllByRecursion (λ (x : KeptSubscription). AllByRecursion (IsJoined s x) x.sub.slots) s.subscriptions → remark_all rule (seen s) ≡ seen (record s { subscriptions = map (remark_subscription rule) s.subscriptions })
+    → AllByRecursion (λ (x : KeptSubscription). Joined s.messages x.number x.sub.slots) s.subscriptions → remark_all rule (seen s) ≡ seen (record s { subscriptions = map (remark_subscription rule) s.subscriptions })
 pass-seen rule s ordered joined = λ i. record (seen s) {
   subs = sym (map-unseen sub_row (remark_subscription rule) s.subscriptions (λ x. refl)) i;
   marks = marks-passed rule s s.subscriptions (found-all s.subscriptions ordered) joined i;

@@ -1,21 +1,20 @@
-ghost use Rattle.std.specs.Prelude.{◌≡◌, ◌≤◌, ◌<◌, ◌+◌, ◌*◌, ◌^◌, ◌≢◌, [], true, false, map, IfOk, OnOk};
+ghost use Rattle.std.specs.Prelude.{◌≡◌, ◌≤◌, ◌<◌, ◌+◌, ◌*◌, ◌^◌, ◌≢◌, [], map, IfOk, OnOk};
 ghost use Rattle.ps_config.specs.Numbers.{most_ack_seconds};
 ghost use Rattle.ps_message.specs.Limits.{most_messages};
-ghost use Rattle.ps_model.specs.declared.command.Command.TheVariants.{Pull, Acknowledge};
-ghost use Rattle.ps_model.specs.Answering.{ticket_of};
+ghost use Rattle.ps_model.specs.declared.command.Command.TheVariants.{Pull};
 ghost use Rattle.std.specs.BTreeMap.{values};
 ghost use Rattle.ps_tables.specs.Numbers.{IsNumbered};
 ghost use Rattle.ps_core.specs.Keeping.{the_message};
 ghost use Rattle.ps_model.specs.Worlds.{message_at};
 ghost use Rattle.ps_model.specs.Checks.{as_read};
-ghost use Rattle.ps_core.specs.Delivering.{pulled, received, received_all, tickets_of};
-ghost use Rattle.ps_core.specs.Effects.{given_of, lend_subscription, ack_subscription};
+ghost use Rattle.ps_core.specs.Delivering.{pulled, received, received_all};
+ghost use Rattle.ps_core.specs.Effects.{given_of, lend_subscription};
 
 use crate::service::outcome::Outcome;
 use crate::service::{Core, give_up};
 use ps_base::{AckId, Duplicate, Labels, List, Moment, Octets, OutOfMemory, Reason, Text};
 use ps_message::Message;
-use ps_model::{Handed, ReceivedMessage, Reply, Ticket};
+use ps_model::{Handed, ReceivedMessage, Reply};
 use ps_names::SubName;
 use ps_tables::{KeptMessage, KeptSubscription};
 use std::alloc::Global;
@@ -49,7 +48,10 @@ impl Core {
         if subscription.detached {
             return Ok(Outcome::not_allowed(Reason::Detached));
         }
-        let seconds = seconds.unwrap_or(subscription.sub.config().ack_seconds);
+        let config = subscription.sub.config();
+        let seconds = seconds.unwrap_or(config.ack_seconds);
+        let exactly_once = config.exactly_once;
+        let ordering = config.ordering;
         let messages = &self.tables.messages;
         let items = match hand_out(alloc, at, max, budget, seconds, subscription, messages) {
             Ok(items) => items,
@@ -66,46 +68,9 @@ impl Core {
         }
         Ok(Outcome {
             reply: Reply::Received {
-                exactly_once: false,
-                ordering: false,
+                exactly_once,
+                ordering,
                 items,
-            },
-            changed,
-        })
-    }
-
-    /// Acknowledges messages of a subscription (API reference, Subscriber.Acknowledge).
-    pub(super) fn acknowledge(
-        &mut self,
-        alloc: Global,
-        at: Moment,
-        name: &SubName,
-        ids: &[AckId],
-    ) -> Result<Outcome, OutOfMemory>
-        requires can { CanRecord at self.old }
-        requires some { ids.now ≢ [] }
-        ensures { IfOk result (λ outcome. IsCarried at (Acknowledge name.now ids.now) self.old self.new outcome.reply outcome.changed) }
-    {
-        let Some(number) = self.tables.subscription_numbers.find(name.text()) else {
-            return Outcome::missing(alloc, name.text());
-        };
-        let Some(subscription) = self.tables.subscriptions.get_mut(&number) else {
-            // Never reached: each name has the number of a subscription.
-            return Outcome::missing(alloc, name.text());
-        };
-        let changed = match take_back(alloc, ids, subscription) {
-            Ok(changed) => changed,
-            Err(error) => return Err(give_up(&mut self.tables, alloc, error)),
-        };
-        if changed {
-            self.clock = at.milliseconds();
-            self.count += 1;
-        }
-        Ok(Outcome {
-            reply: Reply::Acked {
-                exactly_once: false,
-                invalid: List::new(alloc),
-                unordered: List::new(alloc),
             },
             changed,
         })
@@ -185,41 +150,5 @@ fn no_message(alloc: Global) -> Message
         payload: Octets::from_vec(Vec::new(alloc)),
         attributes: Labels::new(alloc),
         key: Text::from_string(String::new(alloc)),
-    }
-}
-
-/// Acknowledges the leases that the ids name on one subscription, and returns whether that changed a mark.
-fn take_back(
-    alloc: Global,
-    ids: &[AckId],
-    subscription: &mut KeptSubscription,
-) -> Result<bool, OutOfMemory>
-    ensures after { OnOk result (subscription.new ≡ ack_subscription (tickets_of subscription.old.number ids.now) subscription.old) }
-    ensures same { IfOk result (λ changed. changed ≡ false → subscription.new.sub.slots ≡ subscription.old.sub.slots) }
-    ensures changed { IfOk result (λ changed. changed ≡ true → subscription.new.sub.slots ≢ subscription.old.sub.slots) }
-{
-    let tickets = tickets_of(alloc, subscription.number, ids)?;
-    let outcome = subscription.sub.acknowledge(alloc, tickets.as_slice())?;
-    Ok(outcome.changed)
-}
-
-/// The leases that the ids name on the subscription with this number, in order.
-fn tickets_of(alloc: Global, sub: u64, ids: &[AckId]) -> Result<Vec<Ticket>, OutOfMemory>
-    ensures { IfOk result (λ tickets. tickets.items ≡ tickets_of sub ids.now) }
-{
-    let tickets = ids
-        .iter()
-        .filter(|id| id.sub == sub)
-        .map(|id| ticket_of(id))
-        .collect(alloc)?;
-    Ok(tickets)
-}
-
-fn ticket_of(id: &AckId) -> Ticket
-    ensures { result ≡ ticket_of id.now }
-{
-    Ticket {
-        number: id.message,
-        lease: id.lease,
     }
 }

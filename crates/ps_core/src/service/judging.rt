@@ -45,15 +45,14 @@ impl Core {
             | Command::GetSubscription { .. }
             | Command::DeleteSubscription { .. }
             | Command::Detach { .. } => self.carry_subscription(alloc, at, command),
-            Command::Pull { .. } | Command::Acknowledge { .. } => {
-                self.carry_delivery(alloc, at, command)
-            }
+            Command::Pull { .. }
+            | Command::Acknowledge { .. }
+            | Command::ModifyAckDeadline { .. } => self.carry_delivery(alloc, at, command),
             Command::ListTopics { .. }
             | Command::ListTopicSubscriptions { .. }
             | Command::ListSubscriptions { .. } => self.carry_list(alloc, at, command),
             // Not built, so refused before.
             Command::ListTopicSnapshots { .. }
-            | Command::ModifyAckDeadline { .. }
             | Command::SeekTime { .. }
             | Command::SeekSnapshot { .. }
             | Command::CreateSnapshot { .. }
@@ -128,7 +127,7 @@ impl Core {
         }
     }
 
-    /// Carries out a pull or an acknowledgement like `carry`.
+    /// Carries out a pull, an acknowledgement or a change of deadlines like `carry`.
     fn carry_delivery(
         &mut self,
         alloc: Global,
@@ -152,6 +151,10 @@ impl Core {
             Command::Acknowledge { subscription, ids } => {
                 self.acknowledge(alloc, at, subscription, ids.as_slice())
             }
+            Command::ModifyAckDeadline {
+                subscription,
+                items,
+            } => self.modify(alloc, at, subscription, items.as_slice()),
             _ => Ok(Outcome::nothing()),
         }
     }

@@ -73,11 +73,11 @@ returns c =
     elim c.if-changed.branch [
       | then-changed w ↦
           let within : c.args.at ≤ last_moment = omega (arith, w.milliseconds-self-inside.ensures.within, w.milliseconds-self-inside.ensures.value) in
-          rw (w.self-is, w.milliseconds-self-inside.ensures.value, c.new.ensures, c.new-2.ensures, w.if-changed.true, ← c.self.view_is)
+          rw (w.self-is, w.milliseconds-self-inside.ensures.value, c.acked.ensures, c.in-Ok.ensures.mode, c.in-Ok.ensures.invalid, c.in-Ok.ensures.unordered, w.if-changed.true, ← c.self.view_is)
           (ack-moved s c.self.inside.next_end tables c.self.invariant refl room name ids c.requires.some c.args.at c.in-Some.number x there new x' put c.in-Ok.ensures.after later within (c.in-Ok.ensures.changed w.if-changed.true))
       | else-changed w ↦
           let same = c.in-Ok.ensures.same w.if-changed.false in
           let rests = ack-rests s c.self.inside.next_end tables c.self.invariant refl room name ids c.requires.some c.args.at c.in-Some.number x there new x' put c.in-Ok.ensures.after same in
-          rw (w.self-is, c.new.ensures, c.new-2.ensures, w.if-changed.false, rests, ← c.self.view_is)
+          rw (w.self-is, c.acked.ensures, c.in-Ok.ensures.mode, c.in-Ok.ensures.invalid, c.in-Ok.ensures.unordered, w.if-changed.false, rests, ← c.self.view_is)
           (ack-rested s c.self.inside.next_end tables c.self.invariant refl room name ids c.requires.some c.args.at c.in-Some.number x there new x' put c.in-Ok.ensures.after same)
     ]

@@ -68,7 +68,7 @@ hand_out-requires c =
     let at = looked-up tables.subscription_numbers name c.text.result.now c.find.result (Some c.in-Some.number) c.text.ensures.value c.find.ensures.number c.in-Some.is in
     let x = c.in-Some-get_mut.subscription.now in
     let there = got-there s c.self.inside.next_end tables c.self.invariant refl name c.in-Some.number at x c.in-Some-get_mut.ensures.value in
-    let lasts = c.unwrap_or-seconds.ensures ∙ ap (λ (config : SubConfig). unwrap_or c.args.seconds config.ack_seconds) c.config.ensures in
+    let lasts = c.unwrap_or-seconds.ensures ∙ ap (λ (config : SubConfig). unwrap_or c.args.seconds config.ack_seconds) c.config-config.ensures in
     record {
       few = pull-few name c.args.max c.args.budget c.args.seconds c.requires.read;
       lease = pull-short s c.self.inside.next_end tables c.self.invariant refl room name c.args.max c.args.budget c.args.seconds c.requires.some c.args.at c.in-Some.number x there c.unwrap_or-seconds.result lasts c.if-subscription.false c.requires.read;
@@ -89,7 +89,7 @@ invariant_of-self-then-changed c =
     let x' = c.hand_out.new.subscription in
     let there = got-there s c.self.inside.next_end tables c.self.invariant refl name c.in-Some.number at x c.in-Some-get_mut.ensures.value in
     let few = pull-few name c.args.max c.args.budget c.args.seconds c.requires.read in
-    let lasts = c.unwrap_or-seconds.ensures ∙ ap (λ (config : SubConfig). unwrap_or c.args.seconds config.ack_seconds) c.config.ensures in
+    let lasts = c.unwrap_or-seconds.ensures ∙ ap (λ (config : SubConfig). unwrap_or c.args.seconds config.ack_seconds) c.config-config.ensures in
     rw c.milliseconds-now.ensures.value
     (pull-kept s c.self.inside.next_end tables c.self.invariant refl room name c.args.max c.args.budget c.args.seconds c.requires.some c.args.at c.in-Some.number x there c.unwrap_or-seconds.result lasts c.if-subscription.false (c.get_mut.follows.lender x').entries x'
     (c.get_mut.follows.holds x').0 c.in-Ok.ensures.after few later within c.min-self-inside.result (omega (arith, c.min-self-inside.ensures)) (omega (arith, c.min-self-inside.ensures, c.from.ensures, c.milliseconds-now.ensures.value))
@@ -105,7 +105,7 @@ invariant_of-self-else-changed c =
     let x = c.in-Some-get_mut.subscription.now in
     let x' = c.hand_out.new.subscription in
     let there = got-there s c.self.inside.next_end tables c.self.invariant refl name c.in-Some.number at x c.in-Some-get_mut.ensures.value in
-    let lasts = c.unwrap_or-seconds.ensures ∙ ap (λ (config : SubConfig). unwrap_or c.args.seconds config.ack_seconds) c.config.ensures in
+    let lasts = c.unwrap_or-seconds.ensures ∙ ap (λ (config : SubConfig). unwrap_or c.args.seconds config.ack_seconds) c.config-config.ensures in
     let none : c.in-Ok.items ≡ [] = nil_from_length c.in-Ok.items (omega (arith, c.len-changed.ensures, c.if-changed.false)) in
     let same =
     pull-rests s c.self.inside.next_end tables c.self.invariant refl room name c.args.max c.args.budget c.args.seconds c.requires.some c.args.at c.in-Some.number x there c.unwrap_or-seconds.result lasts c.if-subscription.false (c.get_mut.follows.lender x').entries x'
@@ -126,11 +126,11 @@ returns c =
     let new = (c.get_mut.follows.lender x').entries in
     let put = (c.get_mut.follows.holds x').0 in
     let few = pull-few name c.args.max c.args.budget c.args.seconds c.requires.read in
-    let lasts = c.unwrap_or-seconds.ensures ∙ ap (λ (config : SubConfig). unwrap_or c.args.seconds config.ack_seconds) c.config.ensures in
+    let lasts = c.unwrap_or-seconds.ensures ∙ ap (λ (config : SubConfig). unwrap_or c.args.seconds config.ack_seconds) c.config-config.ensures in
     elim c.if-changed.branch [
       | then-changed w ↦
           let within : c.args.at ≤ last_moment = omega (arith, w.milliseconds-now.ensures.within, w.milliseconds-now.ensures.value) in
-          rw (w.self-is, w.milliseconds-now.ensures.value, ne_eqb c.len-changed.result 0 w.if-changed.true, ← c.self.view_is)
+          rw (w.self-is, w.milliseconds-now.ensures.value, ne_eqb c.len-changed.result 0 w.if-changed.true, c.config-config.ensures, ← c.self.view_is)
           (pull-moved s c.self.inside.next_end tables c.self.invariant refl room name c.args.max c.args.budget c.args.seconds c.requires.some c.args.at c.in-Some.number x there c.unwrap_or-seconds.result lasts c.if-subscription.false new x' put c.in-Ok.ensures.after few later within
           c.in-Ok.items c.in-Ok.ensures.items (λ none. omega (arith, c.len-changed.ensures, w.if-changed.true, ap (λ (xs : List ReceivedMessage). length xs) none)))
       | else-changed w ↦
@@ -138,7 +138,7 @@ returns c =
           let same =
           pull-rests s c.self.inside.next_end tables c.self.invariant refl room name c.args.max c.args.budget c.args.seconds c.requires.some c.args.at c.in-Some.number x there c.unwrap_or-seconds.result lasts c.if-subscription.false new x' put c.in-Ok.ensures.after
           (sym c.in-Ok.ensures.items ∙ none) in
-          rw (w.self-is, eq-eqb c.len-changed.result 0 w.if-changed.false, same, ← c.self.view_is)
+          rw (w.self-is, eq-eqb c.len-changed.result 0 w.if-changed.false, same, c.config-config.ensures, ← c.self.view_is)
           (pull-rested s c.self.inside.next_end tables c.self.invariant refl room name c.args.max c.args.budget c.args.seconds c.requires.some c.args.at c.in-Some.number x there c.unwrap_or-seconds.result lasts c.if-subscription.false new x' put c.in-Ok.ensures.after
           c.in-Ok.items c.in-Ok.ensures.items none)
     ]
