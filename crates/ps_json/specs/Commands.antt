@@ -8,12 +8,12 @@ use Rattle.ps_base.specs.declared.refusal.Refusal.TheVariants.{InvalidArgument, 
 use Rattle.ps_model.specs.declared.command.Command.{Command}
 use Rattle.ps_model.specs.declared.command.Command.TheVariants as command
 use Rattle.ps_json.specs.declared.call.CallKind.{CallKind}
-use Rattle.ps_json.specs.declared.call.CallKind.TheVariants.{CreateTopic, UpdateTopic, GetTopic, DeleteTopic, ListTopics, ListTopicSubscriptions, Publish, CreateSubscription, UpdateSubscription, GetSubscription, DeleteSubscription, ListSubscriptions, Pull, Acknowledge, Detach}
+use Rattle.ps_json.specs.declared.call.CallKind.TheVariants.{CreateTopic, UpdateTopic, GetTopic, DeleteTopic, ListTopics, ListTopicSubscriptions, Publish, CreateSubscription, UpdateSubscription, GetSubscription, DeleteSubscription, ListSubscriptions, Pull, Acknowledge, ModifyAckDeadline, Detach}
 use Rattle.ps_json.specs.declared.named.PathNames.{PathNames}
 use Rattle.ps_json.specs.declared.named.Query.{Query}
 use Rattle.ps_json.specs.Checks.{and_then, checked}
 use Rattle.ps_json.specs.Creations.{create_topic, create_subscription}
-use Rattle.ps_json.specs.Deliveries.{pull, acknowledge}
+use Rattle.ps_json.specs.Deliveries.{pull, acknowledge, modify}
 use Rattle.ps_json.specs.Listing.{topics_asked, topic_subscriptions_asked, subscriptions_asked}
 use Rattle.ps_json.specs.Names.{call_name, topic_name, sub_name}
 use Rattle.ps_json.specs.Naming.{topic_in, sub_in, detach_checks}
@@ -48,5 +48,6 @@ command_of DeleteSubscription path query body = and_then (sub_in path) (λ subsc
 command_of ListSubscriptions path query body = subscriptions_asked path query
 command_of Pull path query body = and_then (fields_of body) (pull (sub_name path))
 command_of Acknowledge path query body = and_then (fields_of body) (acknowledge (sub_name path))
+command_of ModifyAckDeadline path query body = and_then (fields_of body) (modify (sub_name path))
 command_of Detach path query body = and_then (fields_of body) (λ ms. checked (detach_checks (sub_name path) ms) (command.Detach (sub_name path)))
 command_of call path query body = Err (unbuilt call)

@@ -1,17 +1,18 @@
--- What a pull and an acknowledgement ask, by the name in the path and the fields of the body: their checks in their order, and the command.
-use Rattle.std.specs.Prelude.{ℕ, List, [], ℤ, pos, negsuc, min, Bool, true, nat_lt, ◌||◌, codes, if◌then◌else◌, Option, Some, None, is_none, option_and_then, unwrap_or, Result, Ok, Err}
+-- What a pull, an acknowledgement and a change of deadlines ask, by the name in the path and the fields of the body: their checks in their order, and the command.
+use Rattle.std.specs.Prelude.{ℕ, List, [], map, ℤ, pos, negsuc, min, Bool, true, nat_lt, ◌||◌, codes, if◌then◌else◌, Option, Some, None, is_none, option_and_then, unwrap_or, Result, Ok, Err}
 use Rattle.std.specs.List.{filter_map, list_any}
 use Rattle.serde_json.specs.Data.{Data, Members}
 use Rattle.serde_json.specs.Find.{as_str, get_member}
 use Rattle.ps_base.specs.declared.ack_id.AckId.{AckId}
-use Rattle.ps_base.specs.declared.reason.Reason.TheVariants.{MaxMessages, AckIds}
+use Rattle.ps_base.specs.declared.reason.Reason.TheVariants.{AckDeadlineSeconds, AckIds, MaxMessages}
 use Rattle.ps_base.specs.declared.refusal.Refusal.{Refusal}
 use Rattle.ps_base.specs.declared.refusal.Refusal.TheVariants.{InvalidArgument}
 use Rattle.ps_names.specs.Names.{is_sub_name}
+use Rattle.ps_config.specs.Numbers.{most_ack_seconds}
 use Rattle.ps_message.specs.Limits.{most_messages, most_bytes}
 use Rattle.ps_message.specs.Lists.{is_empty}
 use Rattle.ps_model.specs.declared.command.Command.{Command}
-use Rattle.ps_model.specs.declared.command.Command.TheVariants.{Pull, Acknowledge}
+use Rattle.ps_model.specs.declared.command.Command.TheVariants.{Pull, Acknowledge, ModifyAckDeadline}
 use Rattle.ps_fields.specs.declared.rows.Object.TheVariants as body
 use Rattle.ps_fields.specs.Kinds.{list_of, whole_of}
 use Rattle.ps_json.specs.AckIds.{ack_id_of}
@@ -71,3 +72,25 @@ acknowledge name ms =
     and_then (name_read (is_sub_name name) name) (λ subscription.
     and_then (well_formed body.Acknowledge ms) (λ none.
     and_then (ids_asked ms) (λ ids. Ok (Acknowledge subscription ids))))
+
+-- ---- a change of deadlines
+
+-- how many seconds are asked for
+abbrev pub deadline_in : Members → ℤ
+deadline_in ms = unwrap_or (whole_of (get_member (codes "ackDeadlineSeconds") ms)) (pos 0)
+
+-- these, if a lease can have them
+abbrev pub deadline_read : ℤ → Result ℕ Refusal
+deadline_read (pos n) = if nat_lt most_ack_seconds n then Err (InvalidArgument AckDeadlineSeconds) else Ok n
+deadline_read (negsuc n) = Err (InvalidArgument AckDeadlineSeconds)
+
+-- each id with these seconds
+abbrev pub items_of : ℕ → List AckId → List (AckId × ℕ)
+items_of seconds ids = map (λ (id : AckId). (id, seconds)) ids
+
+abbrev pub modify : List ℕ → Members → Result Command Refusal
+modify name ms =
+    and_then (name_read (is_sub_name name) name) (λ subscription.
+    and_then (well_formed body.ModifyAckDeadline ms) (λ none.
+    and_then (ids_asked ms) (λ ids.
+    and_then (deadline_read (deadline_in ms)) (λ seconds. Ok (ModifyAckDeadline subscription (items_of seconds ids))))))

@@ -13,10 +13,7 @@ unbuilt Topic = codes "messageRetentionDuration" ∷ []
 unbuilt Subscription =
     codes "messageRetentionDuration"
     ∷ codes "retainAckedMessages"
-    ∷ codes "enableMessageOrdering"
     ∷ codes "deadLetterPolicy"
-    ∷ codes "retryPolicy"
-    ∷ codes "enableExactlyOnceDelivery"
     ∷ codes "pushConfig"
     ∷ []
 unbuilt _ = []
@@ -44,21 +41,9 @@ has_filled_field (number n) = false
 has_filled_field (string s) = false
 has_filled_field (array ds) = false
 
--- filled, or an object, if it is empty too
-abbrev pub is_there : Data → Bool
-is_there (object ms) = true
-is_there null = false
-is_there (boolean b) = b
-is_there (number n) = is_filled (number n)
-is_there (string s) = is_filled (string s)
-is_there (array ds) = is_filled (array ds)
-
--- Whether a value asks for the setting of this name. Push settings do by a field that is filled, a retry policy by being there, since its delays have defaults.
+-- Whether a value asks for the setting of this name. Push settings do by a field that is filled.
 abbrev pub is_asked : List ℕ → Data → Bool
-is_asked name value =
-    if bytes_eq name (codes "pushConfig") then has_filled_field value
-    else if bytes_eq name (codes "retryPolicy") then is_there value
-    else is_filled value
+is_asked name value = if bytes_eq name (codes "pushConfig") then has_filled_field value else is_filled value
 
 abbrev pub is_asked_unbuilt : Object → List ℕ × Data → Bool
 is_asked_unbuilt table field = (is_unbuilt table field.0 || is_left_out table field.0) && is_asked field.0 field.1

@@ -5,12 +5,13 @@ use Rattle.serde_json.specs.Find.{get_member}
 use Rattle.ps_base.specs.declared.reason.Reason.{Reason}
 use Rattle.ps_base.specs.declared.refusal.Refusal.{Refusal}
 use Rattle.ps_base.specs.declared.refusal.Refusal.TheVariants.{InvalidArgument}
+use Rattle.ps_config.specs.declared.config.RetryPolicy.{RetryPolicy}
 use Rattle.ps_config.specs.declared.config.SubConfig.{SubConfig}
 use Rattle.ps_config.specs.declared.config.TopicConfig.{TopicConfig}
 use Rattle.ps_config.specs.declared.mask.Mask.{Mask}
 use Rattle.ps_config.specs.Limits.{sub_checks_behind_filter, sub_fault, topic_fault}
 use Rattle.ps_config.specs.Masks.{default_sub, default_topic, masked_sub, masked_topic, whole_mask}
-use Rattle.ps_config.specs.Numbers.{default_ack_seconds, default_expiration, default_retention}
+use Rattle.ps_config.specs.Numbers.{default_ack_seconds, default_expiration, default_least_delay, default_most_delay, default_retention}
 use Rattle.ps_message.specs.Lists.{first_of}
 use Rattle.ps_model.specs.Checks.{filter_setting_fault, new_sub_fault}
 use Rattle.ps_fields.specs.Fields.{object_in}
@@ -36,7 +37,14 @@ abbrev pub expiration_of : Option Members → Option ℕ
 expiration_of None = Some default_expiration
 expiration_of (Some ms) = option_and_then duration_value (get_member (codes "ttl") ms)
 
--- dead letters and retry delays aren't read yet
+-- how long a message rests after a failure, by its policy
+abbrev pub retry_of : Members → RetryPolicy
+retry_of ms = record {
+  least = unwrap_or (option_and_then duration_value (get_member (codes "minimumBackoff") ms)) default_least_delay;
+  most = unwrap_or (option_and_then duration_value (get_member (codes "maximumBackoff") ms)) default_most_delay;
+}
+
+-- dead letters aren't read yet
 abbrev pub subscription_in : Members → SubConfig
 subscription_in ms = record {
   ack_seconds = ack_seconds (unwrap_or (whole_of (get_member (codes "ackDeadlineSeconds") ms)) (pos 0));
@@ -47,7 +55,7 @@ subscription_in ms = record {
   expiration = expiration_of (object_in (codes "expirationPolicy") ms);
   filter = unwrap_or (text_of (get_member (codes "filter") ms)) [];
   dead_letter = None;
-  retry = None;
+  retry = option_map retry_of (object_in (codes "retryPolicy") ms);
   exactly_once = unwrap_or (flag_of (get_member (codes "enableExactlyOnceDelivery") ms)) false;
 }
 

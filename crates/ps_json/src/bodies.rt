@@ -3,6 +3,7 @@
 pub mod acknowledging;
 pub mod fields;
 pub mod listing;
+pub mod modifying;
 pub mod naming;
 pub mod publishing;
 pub mod pulling;

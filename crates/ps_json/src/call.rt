@@ -10,6 +10,7 @@ ghost use Rattle.ps_json.specs.Names.{call_name};
 
 use crate::bodies::acknowledging::acknowledge;
 use crate::bodies::listing::{list_subscriptions, list_topic_subscriptions, list_topics};
+use crate::bodies::modifying::modify;
 use crate::bodies::naming::{
     delete_subscription, delete_topic, detach, get_subscription, get_topic,
 };
@@ -111,6 +112,7 @@ pub fn command(
         CallKind::ListSubscriptions => list_subscriptions(alloc, path, query),
         CallKind::Pull => pull_at(alloc, path, body),
         CallKind::Acknowledge => acknowledge_at(alloc, path, body),
+        CallKind::ModifyAckDeadline => modify_at(alloc, path, body),
         CallKind::Detach => detach_at(alloc, path, body),
         _ => Err(unbuilt(alloc, call)?),
     }
@@ -178,6 +180,14 @@ fn acknowledge_at(alloc: Global, path: &PathNames, body: &Value) -> Result<Comma
 {
     let name = sub_name(alloc, path)?;
     acknowledge(alloc, name.as_str(), fields_of(body)?)
+}
+
+fn modify_at(alloc: Global, path: &PathNames, body: &Value) -> Result<Command, ReadError>
+    ensures { (query : Query)
+        → Reads result (command_of kind.ModifyAckDeadline path.now query (view body.now)) }
+{
+    let name = sub_name(alloc, path)?;
+    modify(alloc, name.as_str(), fields_of(body)?)
 }
 
 fn detach_at(alloc: Global, path: &PathNames, body: &Value) -> Result<Command, ReadError>

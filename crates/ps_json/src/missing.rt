@@ -17,13 +17,7 @@ fn is_unbuilt(object: Object, name: &str) -> bool
         Object::Topic => name == "messageRetentionDuration",
         Object::Subscription => matches!(
             name,
-            "messageRetentionDuration"
-                | "retainAckedMessages"
-                | "enableMessageOrdering"
-                | "deadLetterPolicy"
-                | "retryPolicy"
-                | "enableExactlyOnceDelivery"
-                | "pushConfig"
+            "messageRetentionDuration" | "retainAckedMessages" | "deadLetterPolicy" | "pushConfig"
         ),
         _ => false,
     }
@@ -51,15 +45,13 @@ fn is_left_out(object: Object, name: &str) -> bool
     }
 }
 
-/// Whether a value asks for the setting of this name. Push settings do by a field that is filled, a retry policy by being
-/// there, since its delays have defaults.
+/// Whether a value asks for the setting of this name. Push settings do by a field that is filled.
 fn is_asked(name: &str, value: &Value) -> bool
     ensures { result ≡ spec.is_asked name.now (view value.now) }
 {
     match (name, value) {
         ("pushConfig", Value::Object(fields)) => has_filled(fields),
         ("pushConfig", _) => false,
-        ("retryPolicy", Value::Object(_)) => true,
         _ => is_filled(value),
     }
 }

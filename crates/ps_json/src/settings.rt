@@ -10,8 +10,8 @@ ghost use Rattle.ps_json.specs.Settings as spec;
 use crate::read_error::{ReadError, refused};
 use ps_base::{Labels, OutOfMemory, Text};
 use ps_config::{
-    DEFAULT_ACK_SECONDS, DEFAULT_EXPIRATION, DEFAULT_RETENTION, Mask, apply_sub, apply_topic,
-    check_sub, check_topic,
+    DEFAULT_ACK_SECONDS, DEFAULT_EXPIRATION, DEFAULT_LEAST_DELAY, DEFAULT_MOST_DELAY,
+    DEFAULT_RETENTION, Mask, RetryPolicy, apply_sub, apply_topic, check_sub, check_topic,
 };
 use ps_fields::{duration_in, field, flag, map, object_in, text, whole};
 use ps_model::{SubConfig, TopicConfig, check_new_sub};
@@ -83,7 +83,7 @@ fn topic_in(alloc: Global, fields: &Map<String, Value>) -> Result<TopicConfig, O
     })
 }
 
-/// The settings of a subscription, of which those that aren't built have their defaults.
+/// The settings of a subscription, of which dead letters aren't built and have their default.
 fn subscription_in(alloc: Global, fields: &Map<String, Value>) -> Result<SubConfig, OutOfMemory>
     ensures { IfOk result (λ config. config
         ≡ spec.subscription_in (members_view fields.now.entries)) }
@@ -98,7 +98,7 @@ fn subscription_in(alloc: Global, fields: &Map<String, Value>) -> Result<SubConf
         expiration: expiration(fields),
         filter: Text::from_str(alloc, text(fields, "filter").unwrap_or(""))?,
         dead_letter: None,
-        retry: None,
+        retry: object_in(fields, "retryPolicy").map(retry_of),
         exactly_once: flag(fields, "enableExactlyOnceDelivery").unwrap_or(false),
     })
 }
@@ -130,6 +130,16 @@ fn expiration(fields: &Map<String, Value>) -> Option<u64>
     match object_in(fields, "expirationPolicy") {
         Some(policy) => duration(policy, "ttl"),
         None => Some(DEFAULT_EXPIRATION),
+    }
+}
+
+/// How long a message rests after a failure. Each delay that isn't named has its default.
+fn retry_of(fields: &Map<String, Value>) -> RetryPolicy
+    ensures { result ≡ spec.retry_of (members_view fields.now.entries) }
+{
+    RetryPolicy {
+        least: duration(fields, "minimumBackoff").unwrap_or(DEFAULT_LEAST_DELAY),
+        most: duration(fields, "maximumBackoff").unwrap_or(DEFAULT_MOST_DELAY),
     }
 }
 

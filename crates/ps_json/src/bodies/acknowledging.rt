@@ -28,8 +28,8 @@ pub fn acknowledge(
     Ok(Command::Acknowledge { subscription, ids })
 }
 
-/// The ids of an acknowledgement, or a refusal if there is none or an item is none.
-fn ids_in(alloc: Global, fields: &Map<String, Value>) -> Result<List<AckId>, ReadError>
+/// The ids of a request, or a refusal if there is none or an item is none.
+pub fn ids_in(alloc: Global, fields: &Map<String, Value>) -> Result<List<AckId>, ReadError>
     ensures { Reads result (spec.ids_asked (members_view fields.now.entries)) }
 {
     let items = list(fields, "ackIds").unwrap_or(&[]);

@@ -15,6 +15,9 @@ returns-in-Pull c = rw c.in-Pull.is (c.pull_at.ensures c.args.query.now)
 pub returns-in-Acknowledge : goal.returns-in-Acknowledge
 returns-in-Acknowledge c = rw c.in-Acknowledge.is (c.acknowledge_at.ensures c.args.query.now)
 
+pub returns-in-ModifyAckDeadline : goal.returns-in-ModifyAckDeadline
+returns-in-ModifyAckDeadline c = rw c.in-ModifyAckDeadline.is (c.modify_at.ensures c.args.query.now)
+
 pub returns-in-Detach : goal.returns-in-Detach
 returns-in-Detach c = rw c.in-Detach.is (c.detach_at.ensures c.args.query.now)
 
