@@ -22,14 +22,16 @@ pub fn settings(alloc: Global, ordering: bool, exactly_once: bool) -> SubConfig
     config
 }
 
-/// Settings with a rest of 10 to 60 seconds after a failure.
-fn resting(alloc: Global) -> SubConfig
+/// Settings with a rest after a failure.
+fn resting(alloc: Global, least: u32, most: u32) -> SubConfig
+    requires least { least ≤ 600 }
+    requires most { most ≤ 600 }
     ensures { new_sub_fault result ≡ None }
 {
     let mut config = settings(alloc, false, false);
     config.retry = Some(RetryPolicy {
-        least: 10000,
-        most: 60000,
+        least: 1000 * u64::from(least),
+        most: 1000 * u64::from(most),
     });
     config
 }
@@ -44,8 +46,8 @@ fn lettering(alloc: Global) -> Result<SubConfig, Fail>
     Ok(config)
 }
 
-/// A subscription with one message of each size in its backlog, all of one key, published at 1000.
-pub fn filled(alloc: Global, config: &SubConfig, sizes: &[u64]) -> Result<Sub, Fail>
+/// A subscription with one message of each size in its backlog, all of one key, published at 1000, each with so many failures.
+pub fn filled(alloc: Global, config: &SubConfig, failures: u32, sizes: &[u64]) -> Result<Sub, Fail>
     requires settings { new_sub_fault config.now ≡ None }
     requires few { length sizes.now ≤ 10000 }
 {
@@ -58,7 +60,7 @@ pub fn filled(alloc: Global, config: &SubConfig, sizes: &[u64]) -> Result<Sub, F
             size: (*size).min(MOST_BYTES),
         };
         let mark = Mark::Backlog {
-            failures: 0,
+            failures,
             until: 0,
             last: None,
         };
@@ -67,11 +69,11 @@ pub fn filled(alloc: Global, config: &SubConfig, sizes: &[u64]) -> Result<Sub, F
     Ok(sub)
 }
 
-fn filled_with(alloc: Global, config: SubConfig, sizes: &[u64]) -> Result<Sub, Fail>
+fn filled_with(alloc: Global, config: SubConfig, failures: u32, sizes: &[u64]) -> Result<Sub, Fail>
     requires settings { new_sub_fault config ≡ None }
     requires few { length sizes.now ≤ 10000 }
 {
-    let sub = filled(alloc, &config, sizes);
+    let sub = filled(alloc, &config, failures, sizes);
     drop(config);
     sub
 }
@@ -80,12 +82,14 @@ fn filled_by(alloc: Global, kind: &str, sizes: &[u64]) -> Result<Sub, Fail>
     requires few { length sizes.now ≤ 10000 }
 {
     match kind {
-        "plain" => filled_with(alloc, settings(alloc, false, false), sizes),
-        "ordered" => filled_with(alloc, settings(alloc, true, false), sizes),
-        "exactly once" => filled_with(alloc, settings(alloc, false, true), sizes),
-        "ordered exactly once" => filled_with(alloc, settings(alloc, true, true), sizes),
-        "resting" => filled_with(alloc, resting(alloc), sizes),
-        "lettering" => filled_with(alloc, lettering(alloc)?, sizes),
+        "plain" => filled_with(alloc, settings(alloc, false, false), 0, sizes),
+        "ordered" => filled_with(alloc, settings(alloc, true, false), 0, sizes),
+        "exactly once" => filled_with(alloc, settings(alloc, false, true), 0, sizes),
+        "ordered exactly once" => filled_with(alloc, settings(alloc, true, true), 0, sizes),
+        "resting" => filled_with(alloc, resting(alloc, 10, 60), 0, sizes),
+        "resting backwards" => filled_with(alloc, resting(alloc, 60, 10), 0, sizes),
+        "worn" => filled_with(alloc, resting(alloc, 10, 60), u32::MAX, sizes),
+        "lettering" => filled_with(alloc, lettering(alloc)?, 0, sizes),
         _ => Err(Fail::new("no kind of subscription")),
     }
 }

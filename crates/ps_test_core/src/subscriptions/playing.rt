@@ -6,7 +6,7 @@ use super::texts::{
 };
 use ps_base::{List, OutOfMemory};
 use ps_model::{Handed, Holds, Ticket};
-use ps_sub::{AckOutcome, Sub};
+use ps_sub::{AckOutcome, ModifyOutcome, Sub};
 use ps_transcript::{Case, cases, number};
 use std::alloc::Global;
 use std::process::Abort;
@@ -72,6 +72,41 @@ fn acknowledge(alloc: Global, sub: &mut Sub, words: &str) -> Result<String, Fail
     Ok(text_of_outcome(alloc, outcome)?)
 }
 
+/// A ticket and seconds.
+fn item(word: &str) -> Result<(Ticket, u32), Fail> {
+    let (lease, seconds) = word.split_once('=').ok_or("no seconds")?;
+    Ok((ticket(lease)?, seconds.parse::<u32>()?))
+}
+
+fn items(alloc: Global, words: &str) -> Result<Vec<(Ticket, u32)>, Fail> {
+    let mut items = Vec::new(alloc);
+    for word in words.split_whitespace() {
+        items.push(item(word)?)?;
+    }
+    Ok(items)
+}
+
+/// What a change of deadlines did, the tickets that it refused, and the dead letters that it made.
+fn text_of_modified(alloc: Global, outcome: ModifyOutcome) -> Result<String, OutOfMemory> {
+    let word = if outcome.changed { "changed" } else { "same" };
+    let mut text = text_of_dead_letters(alloc, outcome.dead.as_slice())?;
+    text.push_str(word)?;
+    add_tickets(alloc, &mut text, ", invalid", outcome.invalid.as_slice())?;
+    Ok(text)
+}
+
+fn modify(
+    alloc: Global,
+    sub: &mut Sub,
+    forward: bool,
+    at: u64,
+    words: &str,
+) -> Result<String, Fail> {
+    let items = items(alloc, words)?;
+    let outcome = sub.modify(alloc, at.min(LAST_MOMENT), items.as_slice(), forward)?;
+    Ok(text_of_modified(alloc, outcome)?)
+}
+
 /// A call, after the leases failed that are over. `forward` says that there is a topic for dead letters.
 fn called(
     alloc: Global,
@@ -86,6 +121,7 @@ fn called(
     let did = match call {
         "pull" => pull(alloc, sub, at, words)?,
         "acknowledge" => acknowledge(alloc, sub, words)?,
+        "modify" => modify(alloc, sub, forward, at, words)?,
         _ => return Err(Fail::new("no call")),
     };
     Ok(format!(in alloc; "{dead}{did}")?)

@@ -61,6 +61,172 @@ const DELAYS: &str = r#"
 < given 1.3.2
 "#;
 
+/// A lease that is given up fails at once, and the rest counts from there.
+const GIVEN_UP: &str = r#"
+> 2000 pull 1
+< given 1.1.0
+> 3000 modify 1.1=0
+< changed
+> 12999 pull 1
+< given
+> 13000 pull 1
+< given 1.2.1
+> 23000 pull 1
+> 42999 pull 1
+< given
+> 43000 pull 1
+< given 1.3.2
+"#;
+
+/// The most is the rest, even if the least is above it.
+const BACKWARDS: &str = r#"
+> 2000 pull 1
+< given 1.1.0
+> 12000 pull 1
+> 21999 pull 1
+< given
+> 22000 pull 1
+< given 1.2.1
+> 22000 modify 1.2=0
+< changed
+> 31999 pull 1
+< given
+> 32000 pull 1
+< given 1.3.2
+"#;
+
+/// Failures are counted up to the greatest number, and the rest is the most then.
+const WORN: &str = r#"
+> 2000 pull 1
+< given 1.1.4294967295
+> 3000 modify 1.1=0
+< changed
+> 62999 pull 1
+< given
+> 63000 pull 1
+< given 1.2.4294967295
+> 73000 pull 1
+> 132999 pull 1
+< given
+> 133000 pull 1
+< given 1.3.4294967295
+"#;
+
+/// Of several items for one lease the last counts. A deadline is put off or brought forward, and one that was the same before
+/// changes nothing.
+const MODIFIED: &str = r#"
+> 2000 pull 2
+< given 1.1.0 2.2.0
+> 3000 modify 1.1=0 2.2=60 1.1=60 2.2=0
+< changed
+> 3000 pull 10
+< given 2.3.1
+> 3000 modify 2.2=0 9.9=0
+< same
+> 3000 acknowledge 2.3
+< changed
+> 3000 modify 2.3=0
+< same
+> 62999 pull 10
+< given
+> 63000 pull 10
+< given 1.4.1
+> 63000 modify 1.4=10
+< same
+> 63000 modify 1.4=1
+< changed
+> 63999 pull 10
+< given
+> 64000 pull 10
+< given 1.5.2
+"#;
+
+/// In exactly-once mode the tickets without a living lease are told, each once, whatever their seconds.
+const MODIFIED_ONCE: &str = r#"
+> 2000 pull 2
+< given 1.1.0 2.2.0
+> 3000 modify 1.1=60 9.9=60 1.9=0 9.9=0
+< changed, invalid 9.9 1.9
+> 12000 modify 2.2=60 1.1=60
+< changed, invalid 2.2
+> 12000 acknowledge 2.2
+< same, invalid 2.2
+"#;
+
+/// The fifth failure makes a dead letter when the lease is given up, too.
+const GIVEN_UP_DEAD: &str = r#"
+> 2000 pull 1
+< given 1.1.0
+> 2000 modify 1.1=0
+< changed
+> 2000 pull 1
+< given 1.2.1
+> 2000 modify 1.2=0
+< changed
+> 2000 pull 1
+< given 1.3.2
+> 2000 modify 1.3=0
+< changed
+> 2000 pull 1
+< given 1.4.3
+> 2000 modify 1.4=0
+< changed
+> 2000 pull 1
+< given 1.5.4
+> 2000 modify 1.5=0
+< dead 1.5, changed
+> 2000 pull 1
+< given
+"#;
+
+/// Of three messages of one key the second is given up: the third, which was acknowledged ahead of it, comes again too. The
+/// first stays out.
+const IN_THE_MIDDLE: &str = r#"
+> 2000 pull 3
+< given 1.1.0 2.2.0 3.3.0
+> 2500 acknowledge 3.3
+< changed
+> 3000 modify 2.2=0
+< changed
+> 3000 pull 10
+< given 2.4.1 3.5.0
+> 3000 counts
+< 0 in the backlog, 3 leased, 0 acknowledged, 0 dead
+"#;
+
+/// The first is given up, so the others lose their leases without a failure. An old ticket is the last one of its message and
+/// acknowledges it ahead of the first.
+const LOST: &str = r#"
+> 2000 pull 3
+< given 1.1.0 2.2.0 3.3.0
+> 3000 modify 1.1=0
+< changed
+> 3000 counts
+< 3 in the backlog, 0 leased, 0 acknowledged, 0 dead
+> 3000 modify 2.2=60
+< same
+> 3000 acknowledge 2.2
+< changed
+> 3000 pull 10
+< given 1.4.1 3.5.0
+> 3000 acknowledge 3.3
+< same
+"#;
+
+/// In exactly-once mode the old tickets are good for nothing.
+const LOST_ONCE: &str = r#"
+> 2000 pull 3
+< given 1.1.0 2.2.0 3.3.0
+> 3000 modify 1.1=0
+< changed
+> 3000 acknowledge 2.2 3.3
+< same, invalid 2.2 3.3
+> 3000 modify 2.2=60
+< same, invalid 2.2
+> 3000 pull 10
+< given 1.4.1 2.5.0 3.6.0
+"#;
+
 /// Of three messages of one key the last is acknowledged first, and falls back as the others fail.
 const FALLING_BACK: &str = r#"
 > 2000 pull 3
@@ -206,6 +372,30 @@ fn leases_end_and_are_acknowledged(rt: HostRuntime) -> Result<(), Fail> {
 }
 
 #[test]
+fn deadlines_are_changed(rt: HostRuntime) -> Result<(), Fail> {
+    let alloc = rt.alloc();
+    play(&rt, alloc, "plain", "1 1", MODIFIED)?;
+    play(&rt, alloc, "exactly once", "1 1", MODIFIED_ONCE)?;
+    play(&rt, alloc, "forwarding", "1", GIVEN_UP_DEAD)
+}
+
+#[test]
+fn messages_rest_after_failures(rt: HostRuntime) -> Result<(), Fail> {
+    let alloc = rt.alloc();
+    play(&rt, alloc, "resting", "1", GIVEN_UP)?;
+    play(&rt, alloc, "resting backwards", "1", BACKWARDS)?;
+    play(&rt, alloc, "worn", "1", WORN)
+}
+
+#[test]
+fn later_messages_of_a_key_fall_back(rt: HostRuntime) -> Result<(), Fail> {
+    let alloc = rt.alloc();
+    play(&rt, alloc, "ordered", "1 1 1", IN_THE_MIDDLE)?;
+    play(&rt, alloc, "ordered", "1 1 1", LOST)?;
+    play(&rt, alloc, "ordered exactly once", "1 1 1", LOST_ONCE)
+}
+
+#[test]
 fn messages_of_a_key_stay_in_order(rt: HostRuntime) -> Result<(), Fail> {
     let alloc = rt.alloc();
     play(&rt, alloc, "ordered", "1 1 1", FALLING_BACK)?;
@@ -229,7 +419,7 @@ fn most_given(alloc: Global, sizes: &[u64]) -> Result<usize, Fail>
     requires { length sizes.now ≤ 10000 }
 {
     let config = settings(alloc, false, false);
-    let mut sub = filled(alloc, &config, sizes)?;
+    let mut sub = filled(alloc, &config, 0, sizes)?;
     Ok(pulled(alloc, &mut sub, 2000, 1000, 10000000)?.len())
 }
 

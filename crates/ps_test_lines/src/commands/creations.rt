@@ -85,24 +85,25 @@ const SUBSCRIPTIONS: &str = r#"
 < projects/p/subscriptions/sub projects/p/topics/abc 10 604800000 Some(2678400000) {} ""
 > CreateSubscription projects/p/subscriptions/sub {"topic":"projects/p/topics/abc","labels":{"b":"2","a":"1"},"ackDeadlineSeconds":600,"expirationPolicy":{},"filter":"attributes:a"}
 < projects/p/subscriptions/sub projects/p/topics/abc 600 604800000 None {a=1;b=2;} "attributes:a"
+> CreateSubscription projects/p/subscriptions/sub {"topic":"projects/p/topics/abc","enableMessageOrdering":true,"enableExactlyOnceDelivery":true}
+< projects/p/subscriptions/sub projects/p/topics/abc 10 604800000 Some(2678400000) {} "" ordered once
+> CreateSubscription projects/p/subscriptions/sub {"topic":"projects/p/topics/abc","retryPolicy":{}}
+> CreateSubscription projects/p/subscriptions/sub {"topic":"projects/p/topics/abc","retryPolicy":{"minimumBackoff":null,"maximumBackoff":"600s"}}
+< projects/p/subscriptions/sub projects/p/topics/abc 10 604800000 Some(2678400000) {} "" rests 10000 to 600000
+> CreateSubscription projects/p/subscriptions/sub {"topic":"projects/p/topics/abc","retryPolicy":{"minimumBackoff":"600s","maximumBackoff":"0s"}}
+< projects/p/subscriptions/sub projects/p/topics/abc 10 604800000 Some(2678400000) {} "" rests 600000 to 0
 "#;
 
 /// Settings of subscriptions that aren't built, or that the service leaves out: the least one in byte order is told.
 const MISSING: &str = r#"
 > CreateSubscription projects/p/subscriptions/x {"messageRetentionDuration":"604800s","name":7,"topic":7,"unlisted":1}
 < 501 messageRetentionDuration
-> CreateSubscription projects/p/subscriptions/sub {"retainAckedMessages":true,"retryPolicy":{}}
+> CreateSubscription projects/p/subscriptions/sub {"retainAckedMessages":true,"tags":[1]}
 > CreateSubscription projects/p/subscriptions/sub {"retainAckedMessages":"x"}
 < 501 retainAckedMessages
-> CreateSubscription projects/p/subscriptions/sub {"enableMessageOrdering":true,"messageTransforms":[1]}
-< 501 enableMessageOrdering
 > CreateSubscription projects/p/subscriptions/sub {"deadLetterPolicy":{"deadLetterTopic":""},"tags":1}
 < 501 deadLetterPolicy
-> CreateSubscription projects/p/subscriptions/sub {"retryPolicy":{"minimumBackoff":"10s"}}
-> CreateSubscription projects/p/subscriptions/sub {"retryPolicy":{}}
-< 501 retryPolicy
 > CreateSubscription projects/p/subscriptions/sub {"enableExactlyOnceDelivery":true,"pushConfig":{"pushEndpoint":"x"}}
-< 501 enableExactlyOnceDelivery
 > CreateSubscription projects/p/subscriptions/sub {"pushConfig":{"pushEndpoint":"http://x"}}
 > CreateSubscription projects/p/subscriptions/sub {"pushConfig":{"other":1},"retryPolicy":null,"tags":1}
 < 501 pushConfig
@@ -162,6 +163,10 @@ const SHAPES: &str = r#"
 > CreateSubscription projects/p/subscriptions/sub {"retryPolicy":[],"enableExactlyOnceDelivery":""}
 > CreateSubscription projects/p/subscriptions/sub {"retryPolicy":false}
 < 400 shape: retryPolicy
+> CreateSubscription projects/p/subscriptions/sub {"retryPolicy":{"minimumBackoff":10,"maximumBackoff":""}}
+< 400 shape: retryPolicy.minimumBackoff
+> CreateSubscription projects/p/subscriptions/sub {"retryPolicy":{"x":1,"maximumBackoff":"60"}}
+< 400 shape: retryPolicy.maximumBackoff
 > CreateSubscription projects/p/subscriptions/sub {"enableExactlyOnceDelivery":0,"pushConfig":7}
 < 400 shape: enableExactlyOnceDelivery
 > CreateSubscription projects/p/subscriptions/sub {"pushConfig":7,"unlisted":1}

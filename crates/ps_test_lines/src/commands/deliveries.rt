@@ -1,4 +1,4 @@
-// Pulls and acknowledgements.
+// Pulls, acknowledgements and changes of deadlines.
 
 use super::expect_all;
 use std::test::Fail;
@@ -95,6 +95,41 @@ const ACKNOWLEDGEMENTS_OF_NO_SUBSCRIPTION: &str = r#"
 > Acknowledge projects/p/subscriptions/ab {"ackIds":["AAAAAAAAAAEAAAAAAAAAAQAAAAAAAAABAAAA"]}
 < 400 name
 "#;
+
+/// Changes of deadlines, of 600 seconds at most. Without seconds they are 0.
+const DEADLINES: &str = r#"
+> ModifyAckDeadline projects/p/subscriptions/sub {"ackIds":["AAAAAAAAAAEAAAAAAAAAAwAAAAAAAAAC","AAAAAAAAAAEAAAAAAAAAAQAAAAAAAAAB","AAAAAAAAAAEAAAAAAAAAAwAAAAAAAAAC"],"ackDeadlineSeconds":600}
+< projects/p/subscriptions/sub 1/3/2=600 1/1/1=600 1/3/2=600
+> ModifyAckDeadline projects/p/subscriptions/sub {"ackIds":["AAAAAAAAAAEAAAAAAAAAAwAAAAAAAAAC"],"ackDeadlineSeconds":"1"}
+< projects/p/subscriptions/sub 1/3/2=1
+> ModifyAckDeadline projects/p/subscriptions/sub {"ackIds":["AAAAAAAAAAEAAAAAAAAAAwAAAAAAAAAC"]}
+> ModifyAckDeadline projects/p/subscriptions/sub {"ackIds":["AAAAAAAAAAEAAAAAAAAAAwAAAAAAAAAC"],"ackDeadlineSeconds":null}
+> ModifyAckDeadline projects/p/subscriptions/sub {"ackIds":["AAAAAAAAAAEAAAAAAAAAAwAAAAAAAAAC"],"ackDeadlineSeconds":0}
+< projects/p/subscriptions/sub 1/3/2=0
+> ModifyAckDeadline projects/p/subscriptions/ab {"ackIds":7,"ackDeadlineSeconds":"x"}
+< 400 name
+> ModifyAckDeadline projects/p/subscriptions/sub {"ackIds":"x","ackDeadlineSeconds":"x"}
+< 400 shape: ackIds
+> ModifyAckDeadline projects/p/subscriptions/sub {"ackIds":["x"],"ackDeadlineSeconds":"x","a":1}
+> ModifyAckDeadline projects/p/subscriptions/sub {"ackIds":["x"],"ackDeadlineSeconds":1.0}
+< 400 shape: ackDeadlineSeconds
+> ModifyAckDeadline projects/p/subscriptions/sub {"ackIds":["x"],"ackDeadlineSeconds":601,"a":1,"b":1}
+< 400 unknown field: a
+> ModifyAckDeadline projects/p/subscriptions/sub {"ackIds":["x"],"ackDeadlineSeconds":601}
+> ModifyAckDeadline projects/p/subscriptions/sub {"ackDeadlineSeconds":601}
+> ModifyAckDeadline projects/p/subscriptions/sub {}
+< 400 ackIds
+> ModifyAckDeadline projects/p/subscriptions/sub {"ackIds":["AAAAAAAAAAEAAAAAAAAAAwAAAAAAAAAC"],"ackDeadlineSeconds":601}
+> ModifyAckDeadline projects/p/subscriptions/sub {"ackIds":["AAAAAAAAAAEAAAAAAAAAAwAAAAAAAAAC"],"ackDeadlineSeconds":-1}
+> ModifyAckDeadline projects/p/subscriptions/sub {"ackIds":["AAAAAAAAAAEAAAAAAAAAAwAAAAAAAAAC"],"ackDeadlineSeconds":4294967296}
+> ModifyAckDeadline projects/p/subscriptions/sub {"ackIds":["AAAAAAAAAAEAAAAAAAAAAwAAAAAAAAAC"],"ackDeadlineSeconds":"9223372036854775807"}
+< 400 ackDeadlineSeconds
+"#;
+
+#[test]
+fn changes_of_deadlines_are_read(rt: HostRuntime) -> Result<(), Fail> {
+    expect_all(&rt, rt.alloc(), &[DEADLINES])
+}
 
 #[test]
 fn pulls_are_read(rt: HostRuntime) -> Result<(), Fail> {

@@ -37,8 +37,6 @@ const NAMES: &str = r#"
 
 /// A call that isn't built is refused by its name, before its name and its body are looked at.
 const UNBUILT: &str = r#"
-> ModifyAckDeadline projects/p/subscriptions/sub {}
-< 501 ModifyAckDeadline
 > Seek projects/p/subscriptions/sub 7
 < 501 Seek
 > ListTopicSnapshots projects/p/topics/abc ?pageSize=x {}

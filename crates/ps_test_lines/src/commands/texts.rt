@@ -46,11 +46,23 @@ fn text_of_topic_settings(alloc: Global, config: &TopicConfig) -> Result<String,
     Ok(format!(in alloc; "{labels} {:?}", config.retention)?)
 }
 
-/// The seconds of a lease, the retention, the expiration, the labels and the filter.
+/// What is told of a subscription only if it is set: the modes, and the least and the greatest delay.
+fn text_of_modes(alloc: Global, config: &SubConfig) -> Result<String, OutOfMemory> {
+    let ordered = if config.ordering { " ordered" } else { "" };
+    let once = if config.exactly_once { " once" } else { "" };
+    let rests = match config.retry {
+        Some(retry) => format!(in alloc; " rests {} to {}", retry.least, retry.most)?,
+        None => String::new(alloc),
+    };
+    Ok(format!(in alloc; "{ordered}{once}{rests}")?)
+}
+
+/// The seconds of a lease, the retention, the expiration, the labels, the filter and the modes.
 fn text_of_subscription_settings(alloc: Global, config: &SubConfig) -> Result<String, OutOfMemory> {
     let labels = text_of_labels(alloc, &config.labels)?;
+    let modes = text_of_modes(alloc, config)?;
     Ok(format!(in alloc;
-        "{} {} {:?} {labels} \"{}\"",
+        "{} {} {:?} {labels} \"{}\"{modes}",
         config.ack_seconds,
         config.retention,
         config.expiration,
@@ -125,6 +137,25 @@ fn text_of_acknowledge(
     Ok(format!(in alloc; "{}{ids}", subscription.text())?)
 }
 
+/// The ids, each with its seconds.
+fn text_of_items(alloc: Global, items: &[(AckId, u32)]) -> Result<String, OutOfMemory> {
+    let mut text = String::new(alloc);
+    for (id, seconds) in items {
+        let one = format!(in alloc; " {}/{}/{}={seconds}", id.sub, id.message, id.lease)?;
+        text.push_str(one.as_str())?;
+    }
+    Ok(text)
+}
+
+fn text_of_modify(
+    alloc: Global,
+    subscription: &SubName,
+    items: &[(AckId, u32)],
+) -> Result<String, OutOfMemory> {
+    let items = text_of_items(alloc, items)?;
+    Ok(format!(in alloc; "{}{items}", subscription.text())?)
+}
+
 fn text_of_list(
     alloc: Global,
     call: &str,
@@ -191,6 +222,10 @@ fn text_of_command(alloc: Global, command: &Command) -> Result<String, OutOfMemo
             subscription,
             ids.as_slice(),
         ),
+        Command::ModifyAckDeadline {
+            subscription,
+            items,
+        } => text_of_modify(alloc, subscription, items.as_slice()),
         _ => text_of_named(alloc, command),
     }
 }

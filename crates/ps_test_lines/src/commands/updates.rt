@@ -98,35 +98,20 @@ const MISSING: &str = r#"
 > UpdateSubscription projects/p/subscriptions/sub {"subscription":{"labels":{"":""}},"updateMask":"retainAckedMessages"}
 > UpdateSubscription projects/p/subscriptions/sub {"subscription":{"tags":1},"updateMask":"labels,retainAckedMessages,x"}
 < 501 retainAckedMessages
-> UpdateSubscription projects/p/subscriptions/sub {"subscription":{"labels":{"":""}},"updateMask":"enableMessageOrdering"}
-> UpdateSubscription projects/p/subscriptions/sub {"subscription":{"tags":1},"updateMask":"labels,enableMessageOrdering,x"}
-< 501 enableMessageOrdering
 > UpdateSubscription projects/p/subscriptions/sub {"subscription":{"labels":{"":""}},"updateMask":"deadLetterPolicy"}
 > UpdateSubscription projects/p/subscriptions/sub {"subscription":{"tags":1},"updateMask":"labels,deadLetterPolicy,x"}
 < 501 deadLetterPolicy
-> UpdateSubscription projects/p/subscriptions/sub {"subscription":{"labels":{"":""}},"updateMask":"retryPolicy"}
-> UpdateSubscription projects/p/subscriptions/sub {"subscription":{"tags":1},"updateMask":"labels,retryPolicy,x"}
-< 501 retryPolicy
-> UpdateSubscription projects/p/subscriptions/sub {"subscription":{"labels":{"":""}},"updateMask":"enableExactlyOnceDelivery"}
-> UpdateSubscription projects/p/subscriptions/sub {"subscription":{"tags":1},"updateMask":"labels,enableExactlyOnceDelivery,x"}
-< 501 enableExactlyOnceDelivery
 > UpdateSubscription projects/p/subscriptions/sub {"subscription":{"labels":{"":""}},"updateMask":"pushConfig"}
 > UpdateSubscription projects/p/subscriptions/sub {"subscription":{"tags":1},"updateMask":"labels,pushConfig,x"}
 < 501 pushConfig
-> UpdateSubscription projects/p/subscriptions/sub {"subscription":{},"updateMask":"retryPolicy,deadLetterPolicy,pushConfig"}
+> UpdateSubscription projects/p/subscriptions/sub {"subscription":{},"updateMask":"retryPolicy,pushConfig,deadLetterPolicy"}
 < 501 deadLetterPolicy
 > UpdateSubscription projects/p/subscriptions/sub {"subscription":{"messageRetentionDuration":"600s","labels":7},"updateMask":"labels"}
 < 501 subscription.messageRetentionDuration
 > UpdateSubscription projects/p/subscriptions/sub {"subscription":{"retainAckedMessages":true,"labels":7},"updateMask":"labels"}
 < 501 subscription.retainAckedMessages
-> UpdateSubscription projects/p/subscriptions/sub {"subscription":{"enableMessageOrdering":true,"labels":7},"updateMask":"labels"}
-< 501 subscription.enableMessageOrdering
 > UpdateSubscription projects/p/subscriptions/sub {"subscription":{"deadLetterPolicy":{"maxDeliveryAttempts":5},"labels":7},"updateMask":"labels"}
 < 501 subscription.deadLetterPolicy
-> UpdateSubscription projects/p/subscriptions/sub {"subscription":{"retryPolicy":{"maximumBackoff":"60s"},"labels":7},"updateMask":"labels"}
-< 501 subscription.retryPolicy
-> UpdateSubscription projects/p/subscriptions/sub {"subscription":{"enableExactlyOnceDelivery":true,"labels":7},"updateMask":"labels"}
-< 501 subscription.enableExactlyOnceDelivery
 > UpdateSubscription projects/p/subscriptions/sub {"subscription":{"pushConfig":{"pushEndpoint":"http://x"},"labels":7},"updateMask":"labels"}
 < 501 subscription.pushConfig
 > UpdateSubscription projects/p/subscriptions/sub {"subscription":{"bigqueryConfig":{"table":"x"},"labels":7},"updateMask":"labels"}
