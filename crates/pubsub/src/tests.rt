@@ -7,6 +7,7 @@ mod lines;
 mod pages;
 mod pieces;
 mod reports;
+mod returning;
 mod runs;
 mod serving;
 mod sessions;

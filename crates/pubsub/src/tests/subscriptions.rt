@@ -106,8 +106,8 @@ fn an_update_is_recorded_once(rt: HostRuntime) -> Result<(), Fail> {
         refuses 400 INVALID_ARGUMENT ackDeadlineSeconds
         call 2000 PATCH /v1/projects/p/subscriptions/sub {"subscription":{"expirationPolicy":{"ttl":"1s"}},"updateMask":"expirationPolicy"}
         refuses 400 INVALID_ARGUMENT expirationPolicy
-        call 2000 PATCH /v1/projects/p/subscriptions/sub {"subscription":{},"updateMask":"retryPolicy"}
-        refuses 501 UNIMPLEMENTED retryPolicy
+        call 2000 PATCH /v1/projects/p/subscriptions/sub {"subscription":{},"updateMask":"deadLetterPolicy"}
+        refuses 501 UNIMPLEMENTED deadLetterPolicy
         call 2000 PATCH /v1/projects/p/subscriptions/sub {"subscription":{},"updateMask":"messageRetentionDuration,labels"}
         refuses 501 UNIMPLEMENTED messageRetentionDuration
         call 2000 PATCH /v1/projects/p/subscriptions/none {"subscription":{},"updateMask":"labels"}
@@ -326,20 +326,14 @@ fn what_is_not_built_is_refused(rt: HostRuntime) -> Result<(), Fail> {
         refuses 501 UNIMPLEMENTED messageRetentionDuration
         call 1000 PUT /v1/projects/p/subscriptions/none {"topic":"projects/p/topics/abc","deadLetterPolicy":{"deadLetterTopic":"projects/p/topics/abc"}}
         refuses 501 UNIMPLEMENTED deadLetterPolicy
-        call 1000 PUT /v1/projects/p/subscriptions/none {"topic":"projects/p/topics/abc","enableExactlyOnceDelivery":true}
-        refuses 501 UNIMPLEMENTED enableExactlyOnceDelivery
         call 1000 PUT /v1/projects/p/subscriptions/none {"topic":"projects/p/topics/abc","pushConfig":{"pushEndpoint":"x"}}
         refuses 501 UNIMPLEMENTED pushConfig
-        call 1000 PUT /v1/projects/p/subscriptions/none {"topic":"projects/p/topics/abc","retryPolicy":{"minimumBackoff":"10s"},"enableMessageOrdering":true}
-        refuses 501 UNIMPLEMENTED enableMessageOrdering
-        call 1000 PUT /v1/projects/p/subscriptions/none {"topic":7,"retryPolicy":{"minimumBackoff":"10s"}}
-        refuses 501 UNIMPLEMENTED retryPolicy
+        call 1000 PUT /v1/projects/p/subscriptions/none {"topic":7,"retainAckedMessages":true,"messageRetentionDuration":"600s"}
+        refuses 501 UNIMPLEMENTED messageRetentionDuration
         call 1000 GET /v1/projects/p/subscriptions/none {}
         refuses 404 NOT_FOUND projects/p/subscriptions/none
         call 1000 PUT /v1/projects/p/subscriptions/other {"topic":"projects/p/topics/abc","retainAckedMessages":false,"enableMessageOrdering":null,"pushConfig":{}}
         gives {"ackDeadlineSeconds":10,"expirationPolicy":{"ttl":"2678400s"},"messageRetentionDuration":"604800s","name":"projects/p/subscriptions/other","topic":"projects/p/topics/abc"}
-        call 1000 POST /v1/projects/p/subscriptions/sub:modifyAckDeadline {}
-        refuses 501 UNIMPLEMENTED ModifyAckDeadline
         call 1000 POST /v1/projects/p/subscriptions/sub:seek {}
         refuses 501 UNIMPLEMENTED Seek
         call 1000 PUT /v1/projects/p/snapshots/snap {"subscription":"projects/p/subscriptions/sub"}
