@@ -10,6 +10,7 @@ use Rattle.ps_model.specs.Slots.{is_gone, is_unacked, is_earlier, any_earlier, r
 use Rattle.ps_sub.specs.Expunging.{expunged_mark}
 use Rattle.ps_sub.specs.Marks.{live}
 use Rattle.ps_sub.specs.Steady.{IsAscending, IsLive, IsSteady}
+use Rattle.ps_sub.proofs.FirstLemmas.{expunging-first}
 use Rattle.ps_sub.proofs.SteadyLemmas.{ascending-remarked}
 
 -- an earlier message among slots with new marks
@@ -57,10 +58,11 @@ live-live (s ∷ ss) = by_mark (is_gone s.mark) refl (live-live ss)
     by_mark true e later = rw e later
     by_mark false e later = rw (e, e) later
 
--- what is left of slots with new marks is steady
-pub steady-live : (rule : Slot → Mark) (slots : List Slot) (config : SubConfig) → IsSteady slots config → IsSteady (live (remarked rule slots)) config
-steady-live rule slots config h = record {
-  ascending = ascending-live (remarked rule slots) (ascending-remarked rule slots h.ascending);
-  live = live-live (remarked rule slots);
+-- what expunging leaves is steady
+pub steady-expunged : (t : ℕ) (config : SubConfig) (held : Holds) (slots : List Slot) → IsSteady slots config → IsSteady (live (remarked (expunged_mark t config held slots) slots)) config
+steady-expunged t config held slots h = record {
+  ascending = ascending-live (remarked (expunged_mark t config held slots) slots) (ascending-remarked (expunged_mark t config held slots) slots h.ascending);
+  live = live-live (remarked (expunged_mark t config held slots) slots);
   delays = h.delays;
+  leased_first = expunging-first t config held slots h.leased_first;
 }

@@ -2,6 +2,7 @@ pub mod OrderLemmas
 pub mod ChoiceLemmas
 pub mod MarkLemmas
 pub mod OnceLemmas
+pub mod FirstLemmas
 pub mod SteadyLemmas
 pub mod CountLemmas
 pub mod ExpungeLemmas

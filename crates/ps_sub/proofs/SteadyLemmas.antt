@@ -1,5 +1,5 @@
 -- What each call keeps of a subscription.
-use Rattle.std.proofs.Common.{ℕ, ◌≡◌, ◌<◌, Bool, true, false, List, [], ◌∷◌, ◌++◌, Option, Some, None, refl, ◌∙◌, append-nil, if◌then◌else◌}
+use Rattle.std.proofs.Common.{ℕ, ◌≡◌, ◌<◌, Bool, true, false, List, [], ◌∷◌, ◌++◌, Option, Some, None, refl, sym, subst, ◌∙◌, append-nil, if◌then◌else◌}
 use Rattle.std.specs.List.{list_any, AllByRecursion}
 use Rattle.std.proofs.lemmas.Bool.{or_parts, or_from, cond_both}
 use Rattle.std.proofs.lemmas.List.Folds.{list_any-append}
@@ -21,8 +21,10 @@ use Rattle.ps_model.specs.Slots.{is_gone, remarked, any_earlier, failures_of}
 use Rattle.ps_model.specs.Choice.{lease_in, leased_as, lent_mark}
 use Rattle.ps_model.specs.Failing.{failed, fallen, is_dead, one_more, mark_after_failing}
 use Rattle.ps_model.specs.Acknowledging.{mark_after_ack, is_named, is_early}
+use Rattle.ps_sub.specs.Entering.{IsInOrder}
 use Rattle.ps_sub.specs.Marks.{live}
-use Rattle.ps_sub.specs.Steady.{HasShortDelays, IsAscending, IsLive, IsSteady}
+use Rattle.ps_sub.specs.Steady.{HasLeasedFirst, HasShortDelays, IsAscending, IsLive, IsSteady}
+use Rattle.ps_sub.proofs.FirstLemmas.{first-append}
 
 pub above-remarked : (rule : Slot → Mark) (n : ℕ) (slots : List Slot) → AllByRecursion (λ (s : Slot). n < s.item.number) slots → AllByRecursion (λ (s : Slot). n < s.item.number) (remarked rule slots)
 above-remarked rule n [] h = h
@@ -42,12 +44,13 @@ live-remarked rule keeps (s ∷ ss) h =
     let p = or_parts (is_gone s.mark) (list_any (λ (e : Slot). is_gone e.mark) ss) h in
     or_from _ _ (keeps s p.0) (live-remarked rule keeps ss p.1)
 
--- new marks keep a subscription steady where the rule makes nothing gone
-pub steady-remarked : (rule : Slot → Mark) (slots : List Slot) (config : SubConfig) → KeepsLive rule → IsSteady slots config → IsSteady (remarked rule slots) config
-steady-remarked rule slots config keeps h = record {
+-- new marks keep a subscription steady if the rule makes nothing gone and keeps the leased messages of a key first
+pub steady-remarked : (rule : Slot → Mark) (slots : List Slot) (config : SubConfig) → KeepsLive rule → HasLeasedFirst config.ordering (remarked rule slots) → IsSteady slots config → IsSteady (remarked rule slots) config
+steady-remarked rule slots config keeps first h = record {
   ascending = ascending-remarked rule slots h.ascending;
   live = live-remarked rule keeps slots h.live;
   delays = h.delays;
+  leased_first = first;
 }
 
 leased-live : (deadline : ℕ) (mark : Mark) (lease : Option ℕ) → is_gone mark ≡ false → is_gone (leased_as deadline mark lease) ≡ false
@@ -95,11 +98,13 @@ ascending-append [] s below h = (tt, tt)
 ascending-append (e ∷ es) s below h = (below-append e.item.number es s h.0 below.0, ascending-append es s below.1 h.1)
 
 -- a message behind all others keeps a subscription steady
-pub steady-append : (slots : List Slot) (config : SubConfig) (s : Slot) → AllByRecursion (λ (e : Slot). e.item.number < s.item.number) slots → is_gone s.mark ≡ false → IsSteady slots config → IsSteady (slots ++ s ∷ []) config
-steady-append slots config s below fresh h = record {
+pub steady-append : (slots : List Slot) (config : SubConfig) (s : Slot) → AllByRecursion (λ (e : Slot). e.item.number < s.item.number) slots → is_gone s.mark ≡ false → IsInOrder config.ordering slots s.item s.mark → IsSteady slots config
+    → IsSteady (slots ++ s ∷ []) config
+steady-append slots config s below fresh order h = record {
   ascending = ascending-append slots s below h.ascending;
   live = list_any-append (λ (e : Slot). is_gone e.mark) slots (s ∷ []) ∙ or_from _ _ h.live (or_from _ _ fresh refl);
   delays = h.delays;
+  leased_first = first-append config.ordering slots s below order h.leased_first;
 }
 
 last_of_two : (a b : Option Reason) → first_of (a ∷ b ∷ []) ≡ None → b ≡ None
@@ -123,15 +128,15 @@ delays-checked config h =
 
 -- no message is as steady as any
 pub steady-none : (config : SubConfig) → HasShortDelays config → IsSteady [] config
-steady-none config h = record { ascending = tt; live = refl; delays = h }
+steady-none config h = record { ascending = tt; live = refl; delays = h; leased_first = tt }
 
-pub steady-configured : (slots : List Slot) (old new : SubConfig) → HasShortDelays new → IsSteady slots old → IsSteady slots new
-steady-configured slots old new h s = record { ascending = s.ascending; live = s.live; delays = h }
+pub steady-configured : (slots : List Slot) (old new : SubConfig) → HasShortDelays new → new.ordering ≡ old.ordering → IsSteady slots old → IsSteady slots new
+steady-configured slots old new h same s = record { ascending = s.ascending; live = s.live; delays = h; leased_first = subst (λ (ordering : Bool). HasLeasedFirst ordering slots) (sym same) s.leased_first }
 
 -- a message behind all others keeps a subscription steady, if it is kept at all
-pub steady-entered : (slots : List Slot) (config : SubConfig) (s : Slot) → AllByRecursion (λ (e : Slot). e.item.number < s.item.number) slots → IsSteady slots config → IsSteady (slots ++ live (s ∷ [])) config
-steady-entered slots config s below h = by_mark (is_gone s.mark) refl
+pub steady-entered : (slots : List Slot) (config : SubConfig) (s : Slot) → AllByRecursion (λ (e : Slot). e.item.number < s.item.number) slots → IsInOrder config.ordering slots s.item s.mark → IsSteady slots config → IsSteady (slots ++ live (s ∷ [])) config
+steady-entered slots config s below order h = by_mark (is_gone s.mark) refl
   where
     by_mark : (gone : Bool) → is_gone s.mark ≡ gone → IsSteady (slots ++ live (s ∷ [])) config
     by_mark true e = rw (e, append-nil) h
-    by_mark false e = rw e (steady-append slots config s below e h)
+    by_mark false e = rw e (steady-append slots config s below e order h)

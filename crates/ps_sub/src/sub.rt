@@ -14,6 +14,7 @@ ghost use Rattle.ps_model.specs.Slots.{is_backlog, is_leased};
 ghost use Rattle.ps_sub.specs.Entering.{EndsBy, WasLent, IsInOrder};
 ghost use Rattle.ps_sub.specs.Expunging.{settled};
 ghost use Rattle.ps_sub.specs.Marks.{live};
+ghost use Rattle.ps_sub.specs.Steady.{HasLeasedFirst};
 ghost use Rattle.ps_sub.specs.Showing.{unacknowledged, marks, first_deadline, has, total_of};
 
 use crate::choose::choose;
@@ -36,7 +37,7 @@ use std::marker::Model;
 /// An acknowledgement, a change of deadlines, failing and expunging are one walk through the messages each, and a look-up of
 /// each ticket. On the walk an ordered subscription keeps the keys that it met.
 ///
-/// The core doesn't call `unacknowledged`, `marks` and `is_due` yet. They are for snapshots and retention.
+/// The core doesn't call `unacknowledged` and `is_due` yet. They are for snapshots and retention.
 #[derive(Drop)]
 pub struct Sub {
     slots: Vec<Slot>,
@@ -215,9 +216,11 @@ impl Sub {
     }
 
     /// The numbers of the messages that aren't acknowledged yet, ascending. A snapshot holds these (Pub/Sub
-    /// documentation, "Replay and purge messages with Seek").
+    /// documentation, "Replay and purge messages with Seek"). On an ordered subscription those of a key that are leased come
+    /// before those in the backlog ("Order messages").
     pub fn unacknowledged(&self, alloc: Global) -> Result<List<u64>, OutOfMemory>
-        ensures { IfOk result (λ numbers. numbers ≡ unacknowledged self.now.slots) }
+        ensures numbers { IfOk result (λ numbers. numbers ≡ unacknowledged self.now.slots) }
+        ensures leased_first { HasLeasedFirst self.now.config.ordering self.now.slots }
     {
         let numbers = showing::unacknowledged(alloc, self.slots.as_slice())?;
         Ok(List::from_vec(numbers))

@@ -1,9 +1,8 @@
 -- A change of deadlines is carried out as the rules say.
-use Rattle.std.proofs.Common.{◌≡◌, ◌≢◌, ◌^◌, ◌<◌, ◌≤◌, ℕ, ◌+◌, ◌*◌, Bool, true, false, nat_eq, List, [], ◌∷◌, Option, Some, None, option_map, map, find, nat_cmp, refl, sym, ap, subst, ◌∙◌, arith}
+use Rattle.std.proofs.Common.{◌≡◌, ◌≢◌, ◌^◌, ◌<◌, ◌≤◌, ℕ, true, false, nat_eq, List, [], ◌∷◌, Option, Some, None, option_map, map, find, nat_cmp, refl, sym, ap, subst, ◌∙◌, arith}
 use Rattle.std.specs.BTreeMap.{is_at, values}
 use Rattle.std.specs.List.{AllByRecursion}
 use Rattle.std.specs.Map.{set_value, values_of}
-use Rattle.std.proofs.lemmas.Bool.{cond_both}
 use Rattle.ps_base.specs.Moments.{last_moment}
 use Rattle.ps_base.specs.declared.ack_id.AckId.{AckId}
 use Rattle.ps_base.specs.declared.refusal.Refusal.TheVariants.{NotFound}
@@ -20,10 +19,11 @@ use Rattle.ps_model.specs.declared.world.SubRow.{SubRow}
 use Rattle.ps_model.specs.Answering.{modify_at}
 use Rattle.ps_model.specs.Checks.{argument_fault}
 use Rattle.ps_model.specs.Commands.{outcome}
-use Rattle.ps_model.specs.Modifying.{extended, extended_by, extended_mark, is_given_up, seconds_for, set_deadline}
+use Rattle.ps_model.specs.Modifying.{extended, extended_mark, is_given_up, seconds_for, set_deadline}
 use Rattle.ps_model.specs.Outcomes.{answers}
 use Rattle.ps_model.specs.Slots.{is_ahead, is_unacked, remark, remarked}
 use Rattle.ps_sub.specs.Modifying.{modified_mark}
+use Rattle.ps_sub.proofs.FirstLemmas.{extended-same}
 use Rattle.ps_sub.proofs.ModifyLemmas.{modify-is, modifying-live, one-modified}
 use Rattle.ps_tables.specs.declared.kept_subscription.KeptSubscription.{KeptSubscription}
 use Rattle.ps_tables.specs.declared.tables.Tables.{Tables}
@@ -59,11 +59,6 @@ set-ahead deadline (Backlog failures until last) = refl
 set-ahead deadline (Ahead failures) = refl
 set-ahead deadline (Done cause) = refl
 set-ahead deadline (Gone cause) = refl
-
--- what a mark is like doesn't change with its deadline, if that holds of each
-extended-same : (is : Mark → Bool) → ((deadline : ℕ) (m : Mark) → is (set_deadline deadline m) ≡ is m) → (at : ℕ) (m : Mark) (seconds : Option ℕ) → is (extended_by at m seconds) ≡ is m
-extended-same is same at m None = refl
-extended-same is same at m (Some seconds) = cond_both (nat_eq seconds 0) m (set_deadline (at + 1000 * seconds) m) (λ (n : Mark). is n ≡ is m) (λ _. refl) (λ _. same (at + 1000 * seconds) m)
 
 module _ (at : ℕ) (config : SubConfig) (no_letter : config.dead_letter ≡ None) (items : List (Ticket × ℕ)) (slots : List Slot) where
   abbrev moved : Slot → Slot

@@ -5,6 +5,7 @@ use Rattle.ps_model.specs.Acknowledging.{acknowledge, mark_after_ack}
 use Rattle.ps_sub.specs.Steady.{IsAscending, IsSteady}
 use Rattle.ps_sub.proofs.SteadyLemmas.{ascending-remarked, steady-remarked, acknowledging-live}
 use Rattle.ps_sub.proofs.MarkLemmas.{written_marks, same_slots, other_slots, state_of}
+use Rattle.ps_sub.proofs.FirstLemmas.{acknowledging-first}
 use Rattle.ps_sub.proofs.sub.Sub.acknowledge.Goals as goal
 
 pub returns-clause-after : goal.returns-clause-after
@@ -32,7 +33,7 @@ invariant_of-self c =
     let written : c.write_marks-changed.new.slots ≡ acknowledge inside.config c.args.tickets.now inside.slots.items =
     rw (c.write_marks-changed.ensures.after, c.as_slice.ensures.value, c.in_ok-made.ensures, c.as_mut_slice.ensures.value, c.as_slice-slots.ensures.value) (written_marks _ _) in
     subst (λ (ss : List Slot). IsSteady ss inside.config) (sym (with_items_is inside.slots c.write_marks-changed.new.slots (omega arith) ∙ written))
-    (steady-remarked _ _ _ (acknowledging-live inside.config c.args.tickets.now inside.slots.items) c.self.invariant)
+    (steady-remarked _ _ _ (acknowledging-live inside.config c.args.tickets.now inside.slots.items) (acknowledging-first inside.config c.args.tickets.now inside.slots.items c.self.invariant.leased_first) c.self.invariant)
 
 pub invariant_of-self-2 : goal.invariant_of-self-2
 invariant_of-self-2 c =
@@ -40,7 +41,7 @@ invariant_of-self-2 c =
     let written : c.write_marks-changed.new.slots ≡ acknowledge inside.config c.args.tickets.now inside.slots.items =
     rw (c.write_marks-changed.ensures.after, c.as_slice.ensures.value, c.in_ok-made.ensures, c.as_mut_slice.ensures.value, c.as_slice-slots.ensures.value) (written_marks _ _) in
     subst (λ (ss : List Slot). IsSteady ss inside.config) (sym (with_items_is inside.slots c.write_marks-changed.new.slots (omega arith) ∙ written))
-    (steady-remarked _ _ _ (acknowledging-live inside.config c.args.tickets.now inside.slots.items) c.self.invariant)
+    (steady-remarked _ _ _ (acknowledging-live inside.config c.args.tickets.now inside.slots.items) (acknowledging-first inside.config c.args.tickets.now inside.slots.items c.self.invariant.leased_first) c.self.invariant)
 
 pub unordered-requires : goal.unordered-requires
 unordered-requires c =

@@ -5,7 +5,7 @@ use Rattle.ps_model.specs.Slots.{remarked}
 use Rattle.ps_sub.specs.Expunging.{expunged_mark}
 use Rattle.ps_sub.specs.Marks.{live}
 use Rattle.ps_sub.specs.Steady.{IsSteady}
-use Rattle.ps_sub.proofs.ExpungeLemmas.{expunge-is, steady-live}
+use Rattle.ps_sub.proofs.ExpungeLemmas.{expunge-is, steady-expunged}
 use Rattle.ps_sub.proofs.MarkLemmas.{written_marks, state_of}
 use Rattle.ps_sub.proofs.sub.Sub.expunge.Goals as goal
 
@@ -15,7 +15,7 @@ invariant_of-self c =
     let written : c.write_marks.new.slots ≡ remarked (expunged_mark c.args.now inside.config c.args.holds.now inside.slots.items) inside.slots.items =
     rw (c.write_marks.ensures.after, c.as_slice.ensures.value, c.in_ok-made.ensures, c.as_mut_slice.ensures.value, c.as_slice-slots.ensures.value) (written_marks _ _) in
     let left = c.drop_gone.ensures ∙ ap live (with_items_is inside.slots c.write_marks.new.slots (omega arith) ∙ written) in
-    subst (λ (ss : List Slot). IsSteady ss inside.config) (sym left) (steady-live _ inside.slots.items inside.config c.self.invariant)
+    subst (λ (ss : List Slot). IsSteady ss inside.config) (sym left) (steady-expunged c.args.now inside.config c.args.holds.now inside.slots.items c.self.invariant)
 
 pub returns : goal.returns
 returns c =

@@ -1,11 +1,12 @@
 use Rattle.std.proofs.Common.{◌≡◌, List, ap, sym, subst, ◌∙◌, arith}
 use Rattle.std.proofs.lemmas.List.{length-map, with_items_is}
 use Rattle.ps_model.specs.declared.mark.Slot.{Slot}
-use Rattle.ps_model.specs.Modifying.{modify}
-use Rattle.ps_sub.specs.Steady.{IsSteady}
+use Rattle.ps_model.specs.Modifying.{extended, is_given_up, modify}
+use Rattle.ps_sub.specs.Steady.{HasLeasedFirst, IsSteady}
 use Rattle.ps_sub.proofs.ModifyLemmas.{letters-are, modify-is, modifying-live}
 use Rattle.ps_sub.proofs.SteadyLemmas.{steady-remarked}
 use Rattle.ps_sub.proofs.MarkLemmas.{written_marks, same_slots, other_slots, state_of}
+use Rattle.ps_sub.proofs.FirstLemmas.{extending-first, failing-first}
 use Rattle.ps_sub.proofs.sub.Sub.modify.Goals as goal
 
 pub returns-clause-after : goal.returns-clause-after
@@ -42,4 +43,7 @@ invariant_of-self c =
     rw (c.write_marks-changed.ensures.after, c.as_slice.ensures.value, c.in_ok-made.ensures c.args.items.now c.in_ok-asked.ensures, c.as_mut_slice.ensures.value, c.as_slice-slots.ensures.value) (written_marks _ _ ∙ sym (modify-is c.args.now c.args.forward inside.config c.args.items.now inside.slots.items)) in
     subst (λ (ss : List Slot). IsSteady ss inside.config) (sym (with_items_is inside.slots c.write_marks-changed.new.slots (omega arith) ∙ written))
     (subst (λ (ss : List Slot). IsSteady ss inside.config) (sym (modify-is c.args.now c.args.forward inside.config c.args.items.now inside.slots.items))
-    (steady-remarked _ _ _ (modifying-live c.args.now c.args.forward inside.config c.args.items.now inside.slots.items) c.self.invariant))
+    (steady-remarked _ _ _ (modifying-live c.args.now c.args.forward inside.config c.args.items.now inside.slots.items)
+    (subst (HasLeasedFirst inside.config.ordering) (modify-is c.args.now c.args.forward inside.config c.args.items.now inside.slots.items)
+    (failing-first (is_given_up c.args.items.now) c.args.now c.args.forward inside.config (extended c.args.now c.args.items.now inside.slots.items)
+    (extending-first inside.config.ordering c.args.now c.args.items.now inside.slots.items c.self.invariant.leased_first))) c.self.invariant))

@@ -6,6 +6,7 @@ use Rattle.ps_sub.specs.Steady.{IsSteady}
 use Rattle.ps_sub.proofs.ChoiceLemmas.{empty_choice}
 use Rattle.ps_sub.proofs.LendLemmas.{drawn-choice}
 use Rattle.ps_sub.proofs.SteadyLemmas.{steady-remarked, lending-live}
+use Rattle.ps_sub.proofs.FirstLemmas.{lending-first}
 use Rattle.ps_sub.proofs.sub.Sub.pull.Goals as goal
 
 pub returns-clause-empty : goal.returns-clause-empty
@@ -15,7 +16,8 @@ pub invariant_of-self : goal.invariant_of-self
 invariant_of-self c =
     let inside = c.self.inside in
     subst (λ (ss : List Slot). IsSteady ss inside.config) (sym (with_items_is inside.slots c.lend.new.slots (omega arith)))
-    (rw (c.lend.ensures, c.as_mut_slice.ensures.value) (steady-remarked _ _ _ (lending-live _ _) c.self.invariant))
+    (rw (c.lend.ensures, c.as_mut_slice.ensures.value, c.as_slice-2.ensures, c.in_ok-given.ensures.value, c.as_slice.ensures.value) (steady-remarked _ _ _ (lending-live _ _)
+    (lending-first c.args.now inside.config.ordering c.args.max c.args.budget inside.next_lease _ inside.slots.items c.self.invariant.ascending c.self.invariant.leased_first) c.self.invariant))
 
 pub lend-requires : goal.lend-requires
 lend-requires c = record {

@@ -6,6 +6,7 @@ use Rattle.ps_sub.specs.Steady.{IsSteady}
 use Rattle.ps_sub.proofs.SteadyLemmas.{steady-remarked, failing-live}
 use Rattle.ps_sub.proofs.DueLemmas.{fail-rest, no-letters}
 use Rattle.ps_sub.proofs.MarkLemmas.{written_marks, state_of}
+use Rattle.ps_sub.proofs.FirstLemmas.{failing-first}
 use Rattle.ps_sub.proofs.sub.Sub.settle.Goals as goal
 
 pub returns-clause-after : goal.returns-clause-after
@@ -21,7 +22,7 @@ invariant_of-self c =
     let written : c.write_marks.new.slots ≡ fail (is_due c.args.now) c.args.now c.args.forward inside.config inside.slots.items =
     rw (c.write_marks.ensures.after, c.as_slice.ensures.value, c.in_ok-made.ensures, c.as_mut_slice.ensures.value, c.as_slice-slots.ensures.value) (written_marks _ _) in
     subst (λ (ss : List Slot). IsSteady ss inside.config) (sym (with_items_is inside.slots c.write_marks.new.slots (omega arith) ∙ written))
-    (steady-remarked _ _ _ (failing-live (is_due c.args.now) c.args.now c.args.forward inside.config inside.slots.items) c.self.invariant)
+    (steady-remarked _ _ _ (failing-live (is_due c.args.now) c.args.now c.args.forward inside.config inside.slots.items) (failing-first (is_due c.args.now) c.args.now c.args.forward inside.config inside.slots.items c.self.invariant.leased_first) c.self.invariant)
 
 pub returns-then-not-any_due-clause-after : goal.returns-then-not-any_due-clause-after
 returns-then-not-any_due-clause-after c =
